@@ -1,0 +1,23 @@
+-- What can stand at a position, told apart for the proofs. Assumes nothing.
+use mathlib.Core.Bool.{Bool, true, false}
+use Rattle.meaning.specs.Words.{Cell, real, top, bot, end, Tail, none, tops, bots}
+
+-- the bar of a tail
+abbrev pub other : Tail → Tail
+other none = none
+other tops = bots
+other bots = tops
+
+module _ {S : Type 0} where
+  abbrev pub isTop : Cell S → Bool
+  isTop (real s) = false
+  isTop top = true
+  isTop bot = false
+  isTop end = false
+
+  -- what can satisfy a boolean
+  abbrev pub alive : Cell S → Bool
+  alive (real s) = true
+  alive top = true
+  alive bot = false
+  alive end = false

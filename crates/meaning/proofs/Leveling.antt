@@ -1,0 +1,63 @@
+-- The level and acceptance as computed tests. Assumes nothing.
+use mathlib.Core.Bool.{Bool, true, false, not, _&&_, _||_}
+use mathlib.Core.List.{List, [], _∷_}
+use Prim.Native.Nat.{ℕ, zero, suc, _≤_, _<_, zero-le}
+use native.Mathlib.Omega.{arith}
+use lib.Dec.{T}
+use Rattle.meaning.specs.Syntax.{Prop, strong, weak, neg, either, both, implies, next, until, under, Seq, Clock, free, on}
+use Rattle.meaning.specs.Words.{top, word, Tail, none, tops, bots}
+use Rattle.meaning.specs.Levels.{levelOf}
+use Rattle.meaning.specs.Meaning.{Match, meets, value, counts, ticks, Topped, Accepted, Neutral, Weakly, Strongly, Level, level3, level2, level1, level0}
+use Rattle.tests.specs.Tests.{Tells, some, every}
+use Rattle.tests.proofs.Telling.{is-and}
+use Rattle.meaning.proofs.Eval.{topB, matchB, plusB, is-top}
+use Rattle.meaning.proofs.Answers.{ansB, is-ans, strongB, weakB, inB, secondB}
+
+module _ {A S : Type 0} (reads : A → S → Bool) where
+  -- (the line lets whoever unfolds `levelB` compute it)
+  unfoldable pub levelB : Prop A → List S → ℕ
+  unfolding ansB strongB weakB inB secondB topB matchB plusB some every meets value counts ticks word
+  levelB P xs = levelOf (ansB reads free P xs bots 0) (ansB reads free P xs none 0) (ansB reads free P xs tops 0)
+
+  -- three tests that decide the answers give the level
+  pub level-from : {P : Prop A} {xs : List S} {s n w : Bool} → Tells s (Strongly reads P xs) → Tells n (Neutral reads P xs) → Tells w (Weakly reads P xs) → Level reads P xs (levelOf s n w)
+  level-from {s = true} hs hn hw = level3 (hs .to tt)
+  level-from {s = false} {n = true} hs hn hw = level2 (hn .to tt) (hs .from)
+  level-from {s = false} {n = false} {w = true} hs hn hw = level1 (hw .to tt) (hn .from)
+  level-from {s = false} {n = false} {w = false} hs hn hw = level0 (hw .from)
+
+  pub level-ok : (P : Prop A) (xs : List S) → Level reads P xs (levelB P xs)
+  unfolding levelB
+  level-ok P xs = level-from {P = P} {xs = xs} (is-ans reads free P xs bots 0 zero-le) (is-ans reads free P xs none 0 zero-le) (is-ans reads free P xs tops 0 zero-le)
+
+  unfoldable pub toppedB : Clock A → Seq A → Bool
+  unfolding topB matchB plusB some every meets value
+  toppedB κ r = topB reads κ r (λ p. top) 0 0
+
+  is-topped : (κ : Clock A) (r : Seq A) → Tells (toppedB κ r) (Topped reads κ r)
+  unfolding toppedB Topped
+  is-topped κ r = is-top reads κ r (λ p. top) 0 (λ p u. tt) 0 zero-le
+
+  unfoldable pub acceptedB : Clock A → Prop A → Bool
+  unfolding toppedB
+  acceptedB κ (strong r) = toppedB κ r
+  acceptedB κ (weak r) = toppedB κ r
+  acceptedB κ (neg P) = acceptedB κ P
+  acceptedB κ (either P Q) = acceptedB κ P && acceptedB κ Q
+  acceptedB κ (both P Q) = acceptedB κ P && acceptedB κ Q
+  acceptedB κ (implies r P) = toppedB κ r && acceptedB κ P
+  acceptedB κ (next P) = acceptedB κ P
+  acceptedB κ (until P Q) = acceptedB κ P && acceptedB κ Q
+  acceptedB κ (under c P) = acceptedB (on c) P
+
+  pub is-accepted : (κ : Clock A) (P : Prop A) → Tells (acceptedB κ P) (Accepted reads κ P)
+  unfolding acceptedB Accepted
+  is-accepted κ (strong r) = is-topped κ r
+  is-accepted κ (weak r) = is-topped κ r
+  is-accepted κ (neg P) = is-accepted κ P
+  is-accepted κ (either P Q) = is-and (is-accepted κ P) (is-accepted κ Q)
+  is-accepted κ (both P Q) = is-and (is-accepted κ P) (is-accepted κ Q)
+  is-accepted κ (implies r P) = is-and (is-topped κ r) (is-accepted κ P)
+  is-accepted κ (next P) = is-accepted κ P
+  is-accepted κ (until P Q) = is-and (is-accepted κ P) (is-accepted κ Q)
+  is-accepted κ (under c P) = is-accepted (on c) P

@@ -1,0 +1,14 @@
+-- The theorems, in a reader's order, and then what they are proved from.
+pub mod Theorems
+pub mod Examples
+pub mod Cells
+pub mod Order
+pub mod Unroll
+pub mod Tails
+pub mod Mono
+pub mod Closed
+pub mod Shift
+pub mod Eval
+pub mod Answers
+pub mod Leveling
+pub mod Rewriting

@@ -1,0 +1,9 @@
+-- To be believed, in this order: what an assertion is, what a word is, and what the one says of the other.
+pub mod Syntax
+pub mod Words
+pub mod Meaning
+-- What the base reads, answers and shows by them.
+pub mod Signal
+pub mod Levels
+pub mod Rewriting
+pub mod Examples

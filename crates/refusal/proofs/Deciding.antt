@@ -1,0 +1,202 @@
+-- What is computed in Cases.antt is what First.antt says, and nothing else is: from tests that decide the refusals, one by one.
+-- Assumes nothing.
+use borrow.Author.Tests.{ltb-true, ltb-false, lt-ltb}
+use mathlib.Core.Path.{_≡_, refl, _∙_, sym, ap, subst}
+use mathlib.Core.Logic.{_⊎_, inl, inr}
+use mathlib.Core.Bool.{Bool, true, false, not, cond, _&&_, true≢false, false≢true}
+use mathlib.Core.List.{List, [], _∷_, _++_}
+use Prim.Native.Nat.{ℕ, zero, suc, _+_, _-_, _≤_, _<_}
+use native.Mathlib.Nat.{sub-zero, zero-add, add-zero, not-suc-le-zero, le-of-suc-le-suc, suc-add, add-suc}
+use native.Mathlib.Omega.{arith}
+use lib.Dec.{T, ltb}
+use Rattle.tests.specs.Tests.{Tells}
+use Rattle.tests.proofs.Telling.{passes, passed}
+use Rattle.refusal.specs.declared.Verdict.{Verdict}
+use Rattle.refusal.specs.First.{Refusal, Lowest, when, atLowest, Answers}
+use Rattle.refusal.specs.Cases.{firstOf, first, Case, at0, atFirst, firstCase, refused, accepted}
+
+-- the test passes exactly if the refusal is given, and the answer is its number and its node
+pub record Decided (c : Case) (r : Refusal) : Type 0 where
+  pub number : c .answer .number ≡ r .number
+  pub to : c .applies ≡ true → r .given (c .answer .node)
+  pub from : (k : ℕ) → r .given k → (c .applies ≡ true) × (k ≡ c .answer .node)
+
+-- each case decides its refusal, where none of those before it is given
+abbrev pub Decides : List Case → List Refusal → Type 0
+Decides [] [] = Unit {0}
+Decides [] (r ∷ rs) = ⊥
+Decides (c ∷ cs) [] = ⊥
+Decides (c ∷ cs) (r ∷ rs) = Decided c r × (((k : ℕ) → ¬ r .given k) → Decides cs rs)
+
+not-given : {c : Case} {r : Refusal} → Decided c r → c .applies ≡ false → (k : ℕ) → ¬ r .given k
+not-given d e k g = false≢true (sym e ∙ d .from k g .0)
+
+pub answers : (cs : List Case) (rs : List Refusal) → Decides cs rs → Answers rs (firstCase cs)
+unfolding Answers firstCase
+answers [] [] d = (refl, refl)
+answers [] (r ∷ rs) d = absurd d
+answers (c ∷ cs) [] d = absurd d
+answers (c ∷ cs) (r ∷ rs) d = go (λ no. answers cs rs (d .1 no)) (c .applies) refl
+  where
+    go : (((k : ℕ) → ¬ r .given k) → Answers rs (firstCase cs)) → (b : Bool) → c .applies ≡ b
+        → ((cond b (c .answer) (firstCase cs) .number ≡ r .number) × r .given (cond b (c .answer) (firstCase cs) .node))
+        ⊎ (((k : ℕ) → ¬ r .given k) × Answers rs (cond b (c .answer) (firstCase cs)))
+    go later true e = inl (d .0 .number, d .0 .to e)
+    go later false e = inr (not-given (d .0) e, later (not-given (d .0) e))
+
+-- no second answer fits
+pub only : (cs : List Case) (rs : List Refusal) → Decides cs rs → (v : Verdict) → Answers rs v → v ≡ firstCase cs
+unfolding Answers firstCase
+only [] [] d v a = λ i. refused (a .0 i) (a .1 i)
+only [] (r ∷ rs) d v a = absurd d
+only (c ∷ cs) [] d v a = absurd d
+only (c ∷ cs) (r ∷ rs) d v (inl (n, g)) =
+    let (e, k) = d .0 .from (v .node) g in
+    rw e (λ i. refused ((n ∙ sym (d .0 .number)) i) (k i))
+only (c ∷ cs) (r ∷ rs) d v (inr (un, a)) = go (only cs rs (d .1 un) v a) (c .applies) refl
+  where
+    go : v ≡ firstCase cs → (b : Bool) → c .applies ≡ b → v ≡ cond b (c .answer) (firstCase cs)
+    go later true e = absurd (un (c .answer .node) (d .0 .to e))
+    go later false e = later
+
+-- ---- a test that decides a statement decides its refusal
+
+pub decided-when : (i : ℕ) {b : Bool} {Holds : Type 0} → Tells b Holds → Decided (at0 i b) (when i Holds)
+decided-when i h = record { number = refl; to = λ e. (refl, h .to (passed e)); from = λ k g. (passes (h .from (g .1)), g .0) }
+
+module _ (p : ℕ → Bool) where
+  -- below what is found no test passes
+  none-from : (m i k : ℕ) → k < m → i + k < firstOf p i m → p (i + k) ≡ false
+  unfolding firstOf
+  none-from zero i k l h = absurd (not-suc-le-zero l)
+  none-from (suc m) i k l h = go (none-from m (suc i)) (p i) refl k l h
+    where
+      go : ((k : ℕ) → k < m → suc i + k < firstOf p (suc i) m → p (suc i + k) ≡ false) → (b : Bool) → p i ≡ b
+          → (k : ℕ) → k < suc m → i + k < cond (p i) i (firstOf p (suc i) m) → p (i + k) ≡ false
+      go ih true e k l h = let g : i + k < i = simp e at h in absurd (let w : ⊥ = omega arith in w)
+      go ih false e zero l h = rw add-zero e
+      go ih false e (suc k) l h =
+          let g : i + suc k < firstOf p (suc i) m = simp e at h in
+          rw (add-suc i k, ← suc-add i k) (ih k (le-of-suc-le-suc l) (omega arith))
+
+  -- what is found passes
+  found-from : (m i : ℕ) → firstOf p i m < i + m → p (firstOf p i m) ≡ true
+  unfolding firstOf
+  found-from zero i h = absurd (let w : ⊥ = omega arith in w)
+  found-from (suc m) i h = go (found-from m (suc i)) (p i) refl h
+    where
+      go : (firstOf p (suc i) m < suc i + m → p (firstOf p (suc i) m) ≡ true) → (b : Bool) → p i ≡ b
+          → cond b i (firstOf p (suc i) m) < i + suc m → p (cond b i (firstOf p (suc i) m)) ≡ true
+      go ih true e h = e
+      go ih false e h = ih (omega arith)
+
+  module _ (n : ℕ) where
+    pub found-passes : first p 0 n < n → p (first p 0 n) ≡ true
+    found-passes h = let z : n - 0 ≡ n = sub-zero n in found-from (n - 0) 0 (omega arith)
+
+    pub below-found : (k : ℕ) → k < n → k < first p 0 n → p k ≡ false
+    below-found k l h = let z : n - 0 ≡ n = sub-zero n in rw (zero-add k) at (none-from (n - 0) 0 k (omega arith) (omega arith))
+
+    -- a search that comes to the end has found none
+    pub none-below : ltb (first p 0 n) n ≡ false → (k : ℕ) → k < n → p k ≡ false
+    none-below e k l = below-found k l (omega (arith, ltb-false))
+
+    -- a test that passes below n is found at or below it
+    found-at : (k : ℕ) → k < n → p k ≡ true → first p 0 n ≤ k
+    found-at k l e = go (ltb k (first p 0 n)) refl
+      where
+        go : (b : Bool) → ltb k (first p 0 n) ≡ b → first p 0 n ≤ k
+        go true q = absurd (true≢false (sym e ∙ below-found k l (ltb-true k (first p 0 n) q)))
+        go false q = ltb-false k (first p 0 n) q
+
+    pub decided-lowest : (i : ℕ) {Such : ℕ → Type 0} → ((k : ℕ) → k < n → Tells (p k) (Such k)) → Decided (atFirst i n p) (atLowest i n Such)
+    decided-lowest i {Such} h = record {
+      number = refl;
+      to = λ e.
+          let l = ltb-true (first p 0 n) n e in
+          record {
+            below = l;
+            such = h (first p 0 n) l .to (passed (found-passes l));
+            lowest = λ j u s. true≢false (sym (passes (h j (omega arith) .from s)) ∙ below-found j (omega arith) u);
+          };
+      from = λ k g.
+          let u = found-at k (g .below) (passes (h k (g .below) .from (g .such))) in
+          let l : first p 0 n < n = let b = g .below in omega arith in
+          (lt-ltb (first p 0 n) n l, same k g l u);
+    }
+      where
+        same : (k : ℕ) → Lowest n Such k → first p 0 n < n → first p 0 n ≤ k → k ≡ first p 0 n
+        same k g l u = go (ltb (first p 0 n) k) refl
+          where
+            go : (b : Bool) → ltb (first p 0 n) k ≡ b → k ≡ first p 0 n
+            go true q = absurd (g .lowest (first p 0 n) (ltb-true (first p 0 n) k q) (h (first p 0 n) l .to (passed (found-passes l))))
+            go false q = let v = ltb-false (first p 0 n) k q in omega arith
+
+-- ---- one case at a time
+
+pub skip : (b : Bool) (v : Verdict) (cs : List Case) → b ≡ false → firstCase (record { applies = b; answer = v } ∷ cs) ≡ firstCase cs
+unfolding firstCase
+skip b v cs e = rw e
+
+pub stop : (b : Bool) (v : Verdict) (cs : List Case) → b ≡ true → firstCase (record { applies = b; answer = v } ∷ cs) ≡ v
+unfolding firstCase
+stop b v cs e = rw e
+
+pub through : firstCase [] ≡ accepted
+unfolding firstCase
+through = refl
+
+-- ---- an acceptance says that no case applies, where each answer is a refusal
+
+abbrev pub None : List Case → Type 0
+None [] = Unit {0}
+None (c ∷ cs) = (c .applies ≡ false) × None cs
+
+abbrev pub refuses : List Case → Bool
+refuses [] = true
+refuses (c ∷ cs) = ltb 0 (c .answer .number) && refuses cs
+
+pub none : (cs : List Case) → T (refuses cs) → firstCase cs .number ≡ 0 → None cs
+unfolding firstCase
+none [] t e = tt
+none (c ∷ cs) t e = go (none cs) (c .applies) refl (ltb 0 (c .answer .number)) refl t
+  where
+    go : (T (refuses cs) → firstCase cs .number ≡ 0 → None cs) → (b : Bool) → c .applies ≡ b → (l : Bool) → ltb 0 (c .answer .number) ≡ l →
+        T (l && refuses cs) → None (c ∷ cs)
+    go ih b p false q u = absurd u
+    go ih true p true q u =
+        let z : c .answer .number ≡ 0 = simp p at e in
+        let w : ⊥ = omega (arith, ltb-true) in
+        absurd w
+    go ih false p true q u = (p, ih u (simp p at e))
+
+-- ---- one list after another: where the first gives a refusal it is answered, else the second is asked
+
+pub after : (cs ds : List Case) → T (refuses cs) → firstCase cs .number ≡ 0 → firstCase (cs ++ ds) ≡ firstCase ds
+unfolding firstCase
+after cs ds t e = go cs (none cs t e)
+  where
+    go : (cs : List Case) → None cs → firstCase (cs ++ ds) ≡ firstCase ds
+    go [] n = refl
+    go (c ∷ cs) n = rw (n .0) (go cs (n .1))
+
+pub before : (cs ds : List Case) → (firstCase cs .number ≡ 0 → ⊥) → firstCase (cs ++ ds) ≡ firstCase cs
+unfolding firstCase
+before [] ds z = absurd (z refl)
+before (c ∷ cs) ds z = go (before cs ds) (c .applies) refl z
+  where
+    go : ((firstCase cs .number ≡ 0 → ⊥) → firstCase (cs ++ ds) ≡ firstCase cs) → (b : Bool) → c .applies ≡ b → (cond b (c .answer) (firstCase cs) .number ≡ 0 → ⊥)
+        → cond b (c .answer) (firstCase (cs ++ ds)) ≡ cond b (c .answer) (firstCase cs)
+    go later true e z = refl
+    go later false e z = later z
+
+-- no refusal of the list is given
+abbrev pub NotGiven : List Refusal → Type 0
+NotGiven [] = Unit {0}
+NotGiven (r ∷ rs) = ((k : ℕ) → ¬ r .given k) × NotGiven rs
+
+pub decides-append : (cs ds : List Case) (rs ss : List Refusal) → Decides cs rs → (NotGiven rs → Decides ds ss) → Decides (cs ++ ds) (rs ++ ss)
+decides-append [] ds [] ss d e = e tt
+decides-append [] ds (r ∷ rs) ss d e = absurd d
+decides-append (c ∷ cs) ds [] ss d e = absurd d
+decides-append (c ∷ cs) ds (r ∷ rs) ss d e = (d .0, λ no. decides-append cs ds rs ss (d .1 no) (λ n. e (no, n)))

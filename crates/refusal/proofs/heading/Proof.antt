@@ -1,0 +1,56 @@
+-- `refusal::heading` meets its contract. The sections follow the code: each adds what one more test gives, and has the answer where the next
+-- one stops. Assumes nothing.
+use borrow.Author.Needs.{needs}
+use borrow.Author.Tests.{lt-ltb, le-ltb}
+use mathlib.Core.Path.{_≡_, _∙_, sym, ap}
+use mathlib.Core.Bool.{Bool, true, false, not}
+use mathlib.Core.List.{List}
+use Prim.Native.Nat.{ℕ, _<_, _≤_}
+use lib.ListN.{length, drop}
+use Rattle.refusal.specs.Cases.{firstCase, refused, accepted}
+use Rattle.refusal.specs.Heading.{headingCases, isMarked, isVersionOne}
+use Rattle.refusal.proofs.Deciding.{skip, stop, through}
+use Rattle.refusal.proofs.heading.Statement.{statement}
+use Rattle.refusal.proofs.heading.Tie as tie
+
+module _ (letter : ℕ) (s : List ℕ) where
+  -- the cases from the ith on are left
+  abbrev Left : ℕ → Type 0
+  Left i = firstCase (headingCases letter s) ≡ firstCase (drop i (headingCases letter s))
+
+  short : length s < 6 → refused 1 0 ≡ firstCase (headingCases letter s)
+  unfolding headingCases
+  short h = sym (stop _ _ _ (lt-ltb _ _ h))
+
+  module _ (l : 6 ≤ length s) (m : Bool) (em : m ≡ isMarked letter s) where
+    left1 : Left 1
+    unfolding headingCases
+    left1 = skip _ _ _ (le-ltb _ _ l)
+
+    mark : not m ≡ true → refused 2 0 ≡ firstCase (headingCases letter s)
+    unfolding headingCases
+    mark h = sym (left1 ∙ stop _ _ _ (ap not (sym em) ∙ h))
+
+    module _ (hm : not m ≡ false) (v : Bool) (ev : v ≡ isVersionOne s) where
+      left2 : Left 2
+      unfolding headingCases
+      left2 = left1 ∙ skip _ _ _ (ap not (sym em) ∙ hm)
+
+      version : not v ≡ true → refused 3 0 ≡ firstCase (headingCases letter s)
+      unfolding headingCases
+      version h = sym (left2 ∙ stop _ _ _ (ap not (sym ev) ∙ h))
+
+      passes : not v ≡ false → accepted ≡ firstCase (headingCases letter s)
+      unfolding headingCases
+      passes h = sym (left2 ∙ skip _ _ _ (ap not (sym ev) ∙ h) ∙ through)
+
+pub heading-spec : {M : Type 1} → statement M
+heading-spec =
+    tie.close
+    (tie.spec
+    (λ c. search short)
+    (λ c κs. search needs)
+    (λ c. search mark)
+    (λ c κs. search needs)
+    (λ c. search version)
+    (λ c. search passes))

@@ -1,0 +1,37 @@
+-- The first refusal that applies, and the lowest node that a test passes, as antt computes them: what the code is held to.
+-- `proofs/Deciding.antt` shows that they are those of First.antt. Assumes nothing.
+use mathlib.Core.Bool.{Bool, cond}
+use mathlib.Core.List.{List, [], _∷_}
+use Prim.Native.Nat.{ℕ, zero, suc, _-_}
+use lib.Dec.{ltb}
+use Rattle.refusal.specs.declared.Verdict.{Verdict}
+
+abbrev pub refused : ℕ → ℕ → Verdict
+refused number node = record { number = number; node = node }
+
+abbrev pub accepted : Verdict
+accepted = refused 0 0
+
+-- of the m numbers from i on, the first at which p passes, or the number after them
+unfoldable pub firstOf : (ℕ → Bool) → ℕ → ℕ → ℕ
+firstOf p i zero = i
+firstOf p i (suc m) = cond (p i) i (firstOf p (suc i) m)
+
+-- the first number from i on and below n at which p passes, or n
+abbrev pub first : (ℕ → Bool) → ℕ → ℕ → ℕ
+first p i n = firstOf p i (n - i)
+
+-- a refusal as a test, and the answer where it passes
+pub record Case : Type 0 where
+  pub applies : Bool
+  pub answer : Verdict
+
+abbrev pub at0 : ℕ → Bool → Case
+at0 i b = record { applies = b; answer = refused i 0 }
+
+abbrev pub atFirst : ℕ → ℕ → (ℕ → Bool) → Case
+atFirst i n p = record { applies = ltb (first p 0 n) n; answer = refused i (first p 0 n) }
+
+unfoldable pub firstCase : List Case → Verdict
+firstCase [] = accepted
+firstCase (c ∷ cs) = cond (c .applies) (c .answer) (firstCase cs)

@@ -1,0 +1,31 @@
+-- Document 01, "Numbers of refusal": a refusal, "the lowest such node" and "the first that applies", for every entry point alike.
+-- Assumes nothing.
+use mathlib.Core.Path.{_≡_}
+use mathlib.Core.Logic.{_⊎_}
+use mathlib.Core.List.{List, [], _∷_}
+use Prim.Native.Nat.{ℕ, _<_}
+use Rattle.refusal.specs.declared.Verdict.{Verdict}
+
+-- a row of the table of refusals: its number, and the node at which it is given
+pub record Refusal : Type 1 where
+  pub number : ℕ
+  pub given : ℕ → Type 0
+
+-- k is the lowest such node, of n
+pub record Lowest (n : ℕ) (Such : ℕ → Type 0) (k : ℕ) : Type 0 where
+  pub below : k < n
+  pub such : Such k
+  pub lowest : (j : ℕ) → j < k → ¬ Such j
+
+-- given exactly when this holds, at node 0
+abbrev pub when : ℕ → Type 0 → Refusal
+when i Holds = record { number = i; given = λ k. (k ≡ 0) × Holds }
+
+-- given exactly when this holds of one of n nodes, at the lowest such
+abbrev pub atLowest : ℕ → ℕ → (ℕ → Type 0) → Refusal
+atLowest i n Such = record { number = i; given = Lowest n Such }
+
+-- the first that applies is answered; an acceptance has number and node 0
+unfoldable pub Answers : List Refusal → Verdict → Type 0
+Answers [] v = (v .number ≡ 0) × (v .node ≡ 0)
+Answers (r ∷ rs) v = ((v .number ≡ r .number) × r .given (v .node)) ⊎ (((k : ℕ) → ¬ r .given k) × Answers rs v)
