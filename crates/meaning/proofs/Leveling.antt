@@ -34,7 +34,7 @@ module _ {A S : Type 0} (reads : A → S → Bool) where
   unfolding topB matchB plusB some every meets value
   toppedB κ r = topB reads κ r (λ p. top) 0 0
 
-  is-topped : (κ : Clock A) (r : Seq A) → Tells (toppedB κ r) (Topped reads κ r)
+  pub is-topped : (κ : Clock A) (r : Seq A) → Tells (toppedB κ r) (Topped reads κ r)
   unfolding toppedB Topped
   is-topped κ r = is-top reads κ r (λ p. top) 0 (λ p u. tt) 0 zero-le
 

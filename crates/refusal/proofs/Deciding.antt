@@ -31,6 +31,13 @@ Decides (c ∷ cs) (r ∷ rs) = Decided c r × (((k : ℕ) → ¬ r .given k) �
 not-given : {c : Case} {r : Refusal} → Decided c r → c .applies ≡ false → (k : ℕ) → ¬ r .given k
 not-given d e k g = false≢true (sym e ∙ d .from k g .0)
 
+pub not-applied : {c : Case} {r : Refusal} → Decided c r → ((k : ℕ) → ¬ r .given k) → c .applies ≡ false
+not-applied {c} d h = go (c .applies) refl
+  where
+    go : (b : Bool) → c .applies ≡ b → b ≡ false
+    go true e = absurd (h (c .answer .node) (d .to e))
+    go false e = refl
+
 pub answers : (cs : List Case) (rs : List Refusal) → Decides cs rs → Answers rs (firstCase cs)
 unfolding Answers firstCase
 answers [] [] d = (refl, refl)

@@ -1,7 +1,8 @@
 -- The tests of a file's first six bytes decide refusals 1, 2 and 3.
 -- Assumes nothing.
+use borrow.Author.Tests.{ltb-false}
 use mathlib.Core.Path.{_≡_, refl, _∙_, sym, ap}
-use mathlib.Core.List.{List, [], _∷_}
+use mathlib.Core.List.{List, [], _∷_, _++_}
 use Prim.Native.Nat.{ℕ, zero, suc, _+_, _*_, _≤_, _<_}
 use native.Mathlib.Nat.{lt-of-not-le, le-of-suc-le-suc}
 use native.Mathlib.Omega.{arith}
@@ -10,8 +11,10 @@ use lib.ListN.{length, getD, take}
 use lib.Seq.{getD-take}
 use Rattle.tests.specs.Tests.{Tells}
 use Rattle.tests.proofs.Telling.{is-map, is-then, is-not, is-eq, is-lt}
+use Rattle.refusal.specs.declared.Verdict.{Verdict}
+use Rattle.refusal.specs.Cases.{Case, firstCase}
 use Rattle.refusal.specs.Heading.{heading, headingCases, isMarked, isVersionOne, mark, version}
-use Rattle.refusal.proofs.Deciding.{Decides, decided-when, refuses}
+use Rattle.refusal.proofs.Deciding.{Decides, decided-when, refuses, none, after, before}
 
 marked-tells : (letter : ℕ) (s : List ℕ) → 6 ≤ length s → Tells (isMarked letter s) (take 3 s ≡ mark letter)
 unfolding isMarked
@@ -56,3 +59,19 @@ decides-heading letter s = (
 pub heading-refuses : (letter : ℕ) (s : List ℕ) → T (refuses (headingCases letter s))
 unfolding headingCases
 heading-refuses letter s = tt
+
+-- what follows the tests of the heading, from what they answer
+module _ (letter : ℕ) (s : List ℕ) (v : Verdict) (ev : v ≡ firstCase (headingCases letter s)) where
+  heading-number : v .number ≡ firstCase (headingCases letter s) .number
+  heading-number = ap (λ (u : Verdict). u .number) ev
+
+  pub heading-stops : ¬ (v .number ≡ 0) → (ds : List Case) → v ≡ firstCase (headingCases letter s ++ ds)
+  heading-stops h ds = ev ∙ sym (before (headingCases letter s) ds (λ z. h (heading-number ∙ z)))
+
+  module _ (h : v .number ≡ 0) where
+    pub heading-passes : (ds : List Case) → firstCase (headingCases letter s ++ ds) ≡ firstCase ds
+    heading-passes ds = after (headingCases letter s) ds (heading-refuses letter s) (sym heading-number ∙ h)
+
+    pub heading-long : 6 ≤ length s
+    unfolding headingCases
+    heading-long = ltb-false (length s) 6 (none (headingCases letter s) (heading-refuses letter s) (sym heading-number ∙ h) .0)

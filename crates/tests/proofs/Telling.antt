@@ -44,6 +44,11 @@ pub is-then : {a b : Bool} {P Q : Type 0} → Tells a P → Tells b Q → Tells 
 is-then {a = true} {b} h k = record { to = λ t. (h .to tt, k .to t); from = λ q. k .from (q .1) }
 is-then {a = false} {b} h k = record { to = λ t. absurd t; from = λ q. h .from (q .0) }
 
+-- another test, unless the one passes
+pub is-unless : {a b : Bool} {P Q : Type 0} → Tells a P → Tells b Q → Tells (cond a false b) ((¬ P) × Q)
+is-unless {a = true} {b} h k = record { to = λ t. absurd t; from = λ q. q .0 (h .to tt) }
+is-unless {a = false} {b} h k = record { to = λ t. (λ p. h .from p, k .to t); from = λ q. k .from (q .1) }
+
 pub is-or : {a b : Bool} {P Q : Type 0} → Tells a P → Tells b Q → Tells (a || b) (P ⊎ Q)
 is-or {a = true} {b} h k = record { to = λ t. inl (h .to tt); from = λ q. tt }
 is-or {a = false} {b} h k = record { to = λ t. inr (k .to t); from = ⊎-elim (λ p. absurd (h .from p)) (k .from) }

@@ -1,0 +1,9 @@
+-- A refusal of reading a record as the code answers it.
+-- Assumes nothing.
+use Prim.Native.Nat.{ℕ}
+use Rattle.refusal.specs.Cases.{refused}
+use Rattle.record.specs.declared.Reading.{Reading}
+
+-- its number and node, with count 0
+abbrev pub refusing : ℕ → ℕ → Reading
+refusing number node = record { verdict = refused number node; count = 0 }

@@ -1,0 +1,99 @@
+-- In a table whose nodes are well formed and well placed, each sequence or property node has one clock. Assumes nothing.
+use native.Mathlib.Omega.{arith}
+use native.Mathlib.Nat.{eq-or-lt-of-le}
+use mathlib.Core.Path.{_≡_, refl, _∙_, sym, ap, subst}
+use mathlib.Core.Logic.{_⊎_, inl, inr, ⊎-elim}
+use mathlib.Core.List.{List}
+use Prim.Native.Nat.{ℕ, zero, suc, _+_, _-_, _<_, _≤_}
+use Rattle.refusal.specs.Heading.{count}
+use Rattle.meaning.specs.Syntax.{Clock, free, on}
+use Rattle.table.specs.declared.nodes.Node.{Node}
+use Rattle.table.specs.declared.nodes.Node.the-variants.{Boolean, Sequence, Property}
+use Rattle.table.specs.declared.nodes.SequenceOp.the-variants.{Letter, Then, Fused, Either, Empty, Repeat, Clocked}
+use Rattle.table.specs.declared.nodes.PropertyOp.the-variants.{Strong, Weak, Negated, AnyOf, BothOf, Implies, Next, Until, Ticked}
+use Rattle.table.specs.Operators.{boolean, sequence}
+use Rattle.table.specs.Nodes.{sortAt, nodeAt, usesOf, root, WellFormed}
+use Rattle.table.specs.Trees.{BooleanAt, Ref, freeR, onR, Part, handed, ClockOf, c-root, c-part, ClockAt, c-free, c-on}
+use Rattle.table.proofs.Reading.{uniqueB}
+use Rattle.table.proofs.Shapes.{down}
+use Rattle.table.proofs.Standing.{boolean-in}
+use Rattle.table.proofs.Placing.{part-below, part-sort, whole-sort, above, one-above}
+
+module _ (s : List ℕ) (some : 1 ≤ count s) (fit : (k : ℕ) → k < count s → WellFormed s k)
+    (once : (k : ℕ) → suc k < count s → sequence ≤ sortAt s k → usesOf s k (count s) ≡ 1) where
+  -- ---- there is one
+
+  abbrev Known : Ref → Type 0
+  Known ρ = (κ : Clock ℕ) × ClockAt (nodeAt s) ρ κ
+
+  -- the clock that a clock node sets
+  set-by : (c p : ℕ) → p < count s → c < p → sortAt s c ≡ boolean → Known (onR c)
+  set-by c p h l e = let (b, d) = boolean-in s (count s) fit (count s) c (omega arith) (omega arith) e in (on b, c-on d)
+
+  known-below : (p : ℕ) → p < count s → (v : Node) → nodeAt s p ≡ v → (ρ : Ref) → Known ρ → Known (handed v ρ)
+  known-below p h (Boolean o) e ρ k = k
+  known-below p h (Sequence (Letter x)) e ρ k = k
+  known-below p h (Sequence (Then x y)) e ρ k = k
+  known-below p h (Sequence (Fused x y)) e ρ k = k
+  known-below p h (Sequence (Either x y)) e ρ k = k
+  known-below p h (Sequence (Empty x)) e ρ k = k
+  known-below p h (Sequence (Repeat x)) e ρ k = k
+  known-below p h (Sequence (Clocked c x)) e ρ k = let (g, j) = down s p (fit p h) e in set-by c p h (g .0) (g .1)
+  known-below p h (Property (Strong x)) e ρ k = k
+  known-below p h (Property (Weak x)) e ρ k = k
+  known-below p h (Property (Negated x)) e ρ k = k
+  known-below p h (Property (AnyOf x y)) e ρ k = k
+  known-below p h (Property (BothOf x y)) e ρ k = k
+  known-below p h (Property (Implies x y)) e ρ k = k
+  known-below p h (Property (Next x)) e ρ k = k
+  known-below p h (Property (Until x y)) e ρ k = k
+  known-below p h (Property (Ticked c x)) e ρ k = let (g, j) = down s p (fit p h) e in set-by c p h (g .0) (g .1)
+
+  -- going up from node k, m steps are enough
+  clock-in : (m k : ℕ) → k < count s → count s ≤ k + m → sequence ≤ sortAt s k → (ρ : Ref) × ClockOf s k ρ × Known ρ
+  clock-in zero k h f z = absurd (omega arith)
+  clock-in (suc m) k h f z =
+      ⊎-elim (λ (e : suc k ≡ count s). let r : root s ≡ k = omega arith in (freeR, subst (λ (j : ℕ). ClockOf s j freeR) r c-root, (free, c-free)))
+      (λ (l : suc k < count s).
+      let (p, g, a) = above s k (count s) (once k l z) fit z in
+      let b = part-below s k (fit p g) a in
+      let (ρ, c, q) = clock-in m p g (omega arith) (whole-sort s k a) in
+      (handed (nodeAt s p) ρ, c-part c a, known-below p g (nodeAt s p) refl ρ q))
+      (eq-or-lt-of-le h)
+
+  pub clock-exists : (k : ℕ) → k < count s → sequence ≤ sortAt s k → (ρ : Ref) × ClockOf s k ρ × Known ρ
+  clock-exists k h z = clock-in (count s) k h (omega arith) z
+
+  -- ---- and no second
+
+  -- what has a clock is a node, by how it has it
+  abbrev Came : ℕ → Ref → Type 0
+  Came k ρ = ((root s ≡ k) × (ρ ≡ freeR)) ⊎ ((p : ℕ) × (σ : Ref) × ClockOf s p σ × Part s p k × (ρ ≡ handed (nodeAt s p) σ))
+
+  came : {k : ℕ} {ρ : Ref} → ClockOf s k ρ → Came k ρ
+  came c-root = inl (refl, refl)
+  came (c-part {p = p} {ρ = σ} c a) = inr (p, σ, c, a, refl)
+
+  clock-inside : {k : ℕ} {ρ : Ref} → ClockOf s k ρ → k < count s
+  clock-inside c-root = omega arith
+  clock-inside (c-part {p = p} {k = k} c a) = let h = clock-inside c in let l = part-below s k (fit p h) a in omega arith
+
+  pub clock-unique : {k : ℕ} {ρ σ : Ref} → ClockOf s k ρ → ClockOf s k σ → ρ ≡ σ
+  clock-unique c-root d =
+      ⊎-elim (λ q. sym (q .1))
+      (λ q. let (p, τ, c, a, e) = q in let h = clock-inside c in let l = part-below s (root s) (fit p h) a in absurd (omega arith)) (came d)
+  clock-unique (c-part {p = p} {k = k} {ρ = ρ} c a) d =
+      let h = clock-inside c in
+      let l = part-below s k (fit p h) a in
+      ⊎-elim (λ q. let r : root s ≡ k = q .0 in absurd (omega arith))
+      (λ q.
+      let (p′, τ, c′, a′, e) = q in
+      let o : p′ ≡ p = one-above s k (count s) (once k (omega arith) (part-sort s k (fit p h) a)) (clock-inside c′) h a′ a in
+      let t : ρ ≡ τ = clock-unique c (subst (λ (j : ℕ). ClockOf s j τ) o c′) in
+      ap (handed (nodeAt s p)) t ∙ ap (λ (j : ℕ). handed (nodeAt s j) τ) (sym o) ∙ sym e)
+      (came d)
+
+  -- a number stands for one clock
+  pub meant-unique : {ρ : Ref} {κ μ : Clock ℕ} → ClockAt (nodeAt s) ρ κ → ClockAt (nodeAt s) ρ μ → κ ≡ μ
+  meant-unique c-free c-free = refl
+  meant-unique (c-on b) (c-on d) = ap on (uniqueB b d)

@@ -1,0 +1,13 @@
+-- Laws that the proofs of this crate and of the crates above cite.
+pub mod Theorems
+pub mod Tabulate
+pub mod Coded
+pub mod Forming
+pub mod Shapes
+pub mod Reading
+pub mod Standing
+pub mod Topping
+pub mod Placing
+pub mod Clocking
+pub mod Checking
+pub mod Counting

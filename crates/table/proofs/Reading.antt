@@ -1,0 +1,115 @@
+-- A node stands for one tree: what a node's tree is made of, by the node, and that two trees of one node are the same.
+-- Assumes nothing.
+use mathlib.Core.Path.{_≡_, refl, sym, ap, subst, _∙_}
+use Prim.Native.Nat.{ℕ}
+use lib.Dec.{eqb}
+use Rattle.meaning.specs.Syntax.{Bexp, const, atom, nott, andd, orr, Seq, one, cat, fuse, alt, empty, plus, clocked, Prop, strong, weak, neg, either, both, implies, next, until, under}
+use Rattle.table.specs.declared.nodes.Node.{Node}
+use Rattle.table.specs.declared.nodes.Node.the-variants.{Boolean, Sequence, Property}
+use Rattle.table.specs.declared.nodes.BooleanOp.the-variants.{Constant, Signal, Not, And, Or}
+use Rattle.table.specs.declared.nodes.SequenceOp.the-variants.{Letter, Then, Fused, Either, Empty, Repeat, Clocked}
+use Rattle.table.specs.declared.nodes.PropertyOp.the-variants.{Strong, Weak, Negated, AnyOf, BothOf, Implies, Next, Until, Ticked}
+use Rattle.table.specs.Trees.{BooleanAt, b-const, b-sig, b-not, b-and, b-or, SequenceAt, s-one, s-cat, s-fuse, s-alt, s-empty, s-plus, s-clock, PropertyAt, p-strong, p-weak, p-neg, p-either, p-both, p-imp, p-next, p-until, p-clock}
+
+-- t is the tree of such a node
+module _ (T : ℕ → Node) where
+  abbrev pub ReadB : Node → Bexp ℕ → Type 0
+  ReadB (Boolean (Constant v)) t = t ≡ const (eqb v 1)
+  ReadB (Boolean (Signal x)) t = t ≡ atom x
+  ReadB (Boolean (Not x)) t = (b : Bexp ℕ) × (t ≡ nott b) × BooleanAt T x b
+  ReadB (Boolean (And x y)) t = (b : Bexp ℕ) × (d : Bexp ℕ) × (t ≡ andd b d) × BooleanAt T x b × BooleanAt T y d
+  ReadB (Boolean (Or x y)) t = (b : Bexp ℕ) × (d : Bexp ℕ) × (t ≡ orr b d) × BooleanAt T x b × BooleanAt T y d
+  ReadB (Sequence o) t = ⊥
+  ReadB (Property o) t = ⊥
+
+  abbrev pub ReadS : Node → Seq ℕ → Type 0
+  ReadS (Boolean o) t = ⊥
+  ReadS (Sequence (Letter x)) t = (b : Bexp ℕ) × (t ≡ one b) × BooleanAt T x b
+  ReadS (Sequence (Empty x)) t = (r : Seq ℕ) × (t ≡ empty r) × SequenceAt T x r
+  ReadS (Sequence (Repeat x)) t = (r : Seq ℕ) × (t ≡ plus r) × SequenceAt T x r
+  ReadS (Sequence (Then x y)) t = (r : Seq ℕ) × (s : Seq ℕ) × (t ≡ cat r s) × SequenceAt T x r × SequenceAt T y s
+  ReadS (Sequence (Fused x y)) t = (r : Seq ℕ) × (s : Seq ℕ) × (t ≡ fuse r s) × SequenceAt T x r × SequenceAt T y s
+  ReadS (Sequence (Either x y)) t = (r : Seq ℕ) × (s : Seq ℕ) × (t ≡ alt r s) × SequenceAt T x r × SequenceAt T y s
+  ReadS (Sequence (Clocked c x)) t = (b : Bexp ℕ) × (r : Seq ℕ) × (t ≡ clocked b r) × BooleanAt T c b × SequenceAt T x r
+  ReadS (Property o) t = ⊥
+
+  abbrev pub ReadP : Node → Prop ℕ → Type 0
+  ReadP (Boolean o) t = ⊥
+  ReadP (Sequence o) t = ⊥
+  ReadP (Property (Strong x)) t = (r : Seq ℕ) × (t ≡ strong r) × SequenceAt T x r
+  ReadP (Property (Weak x)) t = (r : Seq ℕ) × (t ≡ weak r) × SequenceAt T x r
+  ReadP (Property (Negated x)) t = (P : Prop ℕ) × (t ≡ neg P) × PropertyAt T x P
+  ReadP (Property (Next x)) t = (P : Prop ℕ) × (t ≡ next P) × PropertyAt T x P
+  ReadP (Property (AnyOf x y)) t = (P : Prop ℕ) × (Q : Prop ℕ) × (t ≡ either P Q) × PropertyAt T x P × PropertyAt T y Q
+  ReadP (Property (BothOf x y)) t = (P : Prop ℕ) × (Q : Prop ℕ) × (t ≡ both P Q) × PropertyAt T x P × PropertyAt T y Q
+  ReadP (Property (Implies x y)) t = (r : Seq ℕ) × (P : Prop ℕ) × (t ≡ implies r P) × SequenceAt T x r × PropertyAt T y P
+  ReadP (Property (Until x y)) t = (P : Prop ℕ) × (Q : Prop ℕ) × (t ≡ until P Q) × PropertyAt T x P × PropertyAt T y Q
+  ReadP (Property (Ticked c x)) t = (b : Bexp ℕ) × (P : Prop ℕ) × (t ≡ under b P) × BooleanAt T c b × PropertyAt T x P
+
+on : {A : Type 0} (R : Node → A → Type 0) {w v : Node} {t : A} → w ≡ v → R v t → R w t
+on R {t = t} e h = subst (λ v. R v t) (sym e) h
+
+module _ {T : ℕ → Node} where
+  readB : {k : ℕ} {b : Bexp ℕ} → BooleanAt T k b → ReadB T (T k) b
+  readB (b-const e) = on (ReadB T) e refl
+  readB (b-sig e) = on (ReadB T) e refl
+  readB (b-not {b = b} e d) = on (ReadB T) e (b, refl, d)
+  readB (b-and {b = b} {d = d} e x y) = on (ReadB T) e (b, d, refl, x, y)
+  readB (b-or {b = b} {d = d} e x y) = on (ReadB T) e (b, d, refl, x, y)
+
+  readS : {k : ℕ} {r : Seq ℕ} → SequenceAt T k r → ReadS T (T k) r
+  readS (s-one {b = b} e d) = on (ReadS T) e (b, refl, d)
+  readS (s-cat {r = r} {s = s} e x y) = on (ReadS T) e (r, s, refl, x, y)
+  readS (s-fuse {r = r} {s = s} e x y) = on (ReadS T) e (r, s, refl, x, y)
+  readS (s-alt {r = r} {s = s} e x y) = on (ReadS T) e (r, s, refl, x, y)
+  readS (s-empty {r = r} e x) = on (ReadS T) e (r, refl, x)
+  readS (s-plus {r = r} e x) = on (ReadS T) e (r, refl, x)
+  readS (s-clock {b = b} {r = r} e d x) = on (ReadS T) e (b, r, refl, d, x)
+
+  readP : {k : ℕ} {P : Prop ℕ} → PropertyAt T k P → ReadP T (T k) P
+  readP (p-strong {r = r} e x) = on (ReadP T) e (r, refl, x)
+  readP (p-weak {r = r} e x) = on (ReadP T) e (r, refl, x)
+  readP (p-neg {P = P} e x) = on (ReadP T) e (P, refl, x)
+  readP (p-next {P = P} e x) = on (ReadP T) e (P, refl, x)
+  readP (p-either {P = P} {Q = Q} e x y) = on (ReadP T) e (P, Q, refl, x, y)
+  readP (p-both {P = P} {Q = Q} e x y) = on (ReadP T) e (P, Q, refl, x, y)
+  readP (p-imp {r = r} {P = P} e x y) = on (ReadP T) e (r, P, refl, x, y)
+  readP (p-until {P = P} {Q = Q} e x y) = on (ReadP T) e (P, Q, refl, x, y)
+  readP (p-clock {b = b} {P = P} e d x) = on (ReadP T) e (b, P, refl, d, x)
+
+  -- a node whose kind is known
+  pub asB : {k : ℕ} {v : Node} {b : Bexp ℕ} → T k ≡ v → BooleanAt T k b → ReadB T v b
+  asB {b = b} e d = subst (λ v. ReadB T v b) e (readB d)
+
+  pub asS : {k : ℕ} {v : Node} {r : Seq ℕ} → T k ≡ v → SequenceAt T k r → ReadS T v r
+  asS {r = r} e d = subst (λ v. ReadS T v r) e (readS d)
+
+  pub asP : {k : ℕ} {v : Node} {P : Prop ℕ} → T k ≡ v → PropertyAt T k P → ReadP T v P
+  asP {P = P} e d = subst (λ v. ReadP T v P) e (readP d)
+
+  pub uniqueB : {k : ℕ} {b d : Bexp ℕ} → BooleanAt T k b → BooleanAt T k d → b ≡ d
+  uniqueB (b-const e) z = sym (asB e z)
+  uniqueB (b-sig e) z = sym (asB e z)
+  uniqueB (b-not e d) z = let (b, q, f) = asB e z in ap nott (uniqueB d f) ∙ sym q
+  uniqueB (b-and e x y) z = let (b, d, q, f, g) = asB e z in (λ i. andd (uniqueB x f i) (uniqueB y g i)) ∙ sym q
+  uniqueB (b-or e x y) z = let (b, d, q, f, g) = asB e z in (λ i. orr (uniqueB x f i) (uniqueB y g i)) ∙ sym q
+
+  pub uniqueS : {k : ℕ} {r s : Seq ℕ} → SequenceAt T k r → SequenceAt T k s → r ≡ s
+  uniqueS (s-one e d) z = let (b, q, f) = asS e z in ap one (uniqueB d f) ∙ sym q
+  uniqueS (s-cat e x y) z = let (r, s, q, f, g) = asS e z in (λ i. cat (uniqueS x f i) (uniqueS y g i)) ∙ sym q
+  uniqueS (s-fuse e x y) z = let (r, s, q, f, g) = asS e z in (λ i. fuse (uniqueS x f i) (uniqueS y g i)) ∙ sym q
+  uniqueS (s-alt e x y) z = let (r, s, q, f, g) = asS e z in (λ i. alt (uniqueS x f i) (uniqueS y g i)) ∙ sym q
+  uniqueS (s-empty e x) z = let (r, q, f) = asS e z in ap empty (uniqueS x f) ∙ sym q
+  uniqueS (s-plus e x) z = let (r, q, f) = asS e z in ap plus (uniqueS x f) ∙ sym q
+  uniqueS (s-clock e d x) z = let (b, r, q, f, g) = asS e z in (λ i. clocked (uniqueB d f i) (uniqueS x g i)) ∙ sym q
+
+  pub uniqueP : {k : ℕ} {P Q : Prop ℕ} → PropertyAt T k P → PropertyAt T k Q → P ≡ Q
+  uniqueP (p-strong e x) z = let (r, q, f) = asP e z in ap strong (uniqueS x f) ∙ sym q
+  uniqueP (p-weak e x) z = let (r, q, f) = asP e z in ap weak (uniqueS x f) ∙ sym q
+  uniqueP (p-neg e x) z = let (P, q, f) = asP e z in ap neg (uniqueP x f) ∙ sym q
+  uniqueP (p-next e x) z = let (P, q, f) = asP e z in ap next (uniqueP x f) ∙ sym q
+  uniqueP (p-either e x y) z = let (P, Q, q, f, g) = asP e z in (λ i. either (uniqueP x f i) (uniqueP y g i)) ∙ sym q
+  uniqueP (p-both e x y) z = let (P, Q, q, f, g) = asP e z in (λ i. both (uniqueP x f i) (uniqueP y g i)) ∙ sym q
+  uniqueP (p-imp e x y) z = let (r, P, q, f, g) = asP e z in (λ i. implies (uniqueS x f i) (uniqueP y g i)) ∙ sym q
+  uniqueP (p-until e x y) z = let (P, Q, q, f, g) = asP e z in (λ i. until (uniqueP x f i) (uniqueP y g i)) ∙ sym q
+  uniqueP (p-clock e d x) z = let (b, P, q, f, g) = asP e z in (λ i. under (uniqueB d f i) (uniqueP x g i)) ∙ sym q

@@ -1,0 +1,173 @@
+-- The two flags of a sequence are what matching says of letters ⊤ alone, under every clock. So a node is hollow exactly where the page refuses it with 9,
+-- and a property of a table with no such node is accepted by the meaning. Assumes nothing.
+use native.Mathlib.Omega.{arith}
+use native.Mathlib.Nat.{not-suc-le-zero, eq-or-lt-of-le, le-of-suc-le-suc}
+use mathlib.Core.Path.{_≡_, refl, _∙_, sym, ap, subst}
+use mathlib.Core.Logic.{⊎-elim}
+use mathlib.Core.Bool.{Bool, true, false, not, _&&_, _||_, or-false, and-false}
+use mathlib.Core.List.{List, [], _∷_, _++_}
+use Prim.Native.Nat.{ℕ, zero, suc, _+_, _<_, _≤_}
+use lib.Dec.{T}
+use lib.ListN.{length, getD, length-append, List·getD-append}
+use lib.Seq.{getD-at}
+use Rattle.tests.specs.Tests.{Tells, some, every}
+use Rattle.tests.proofs.Telling.{is-not, failed}
+use Rattle.meaning.specs.Syntax.{Seq, Prop, Clock, free, on}
+use Rattle.meaning.specs.Words.{top}
+use Rattle.meaning.specs.Meaning.{meets, Topped, Accepted}
+use Rattle.meaning.specs.Signal.{signal}
+use Rattle.meaning.proofs.Eval.{matchB, plusB, topB}
+use Rattle.meaning.proofs.Leveling.{toppedB, is-topped}
+use Rattle.table.specs.declared.nodes.Node.{Node}
+use Rattle.table.specs.declared.nodes.Node.the-variants.{Boolean, Sequence, Property}
+use Rattle.table.specs.declared.nodes.SequenceOp.the-variants.{Letter, Then, Fused, Either, Empty, Repeat, Clocked}
+use Rattle.table.specs.declared.nodes.PropertyOp.the-variants.{Strong, Weak, Negated, AnyOf, BothOf, Implies, Next, Until, Ticked}
+use Rattle.table.specs.declared.topped.Tops.{Tops}
+use Rattle.table.specs.Operators.{sequence}
+use Rattle.table.specs.Nodes.{sortAt, nodeAt, WellFormed}
+use Rattle.table.specs.Trees.{SequenceAt, s-one, s-cat, s-fuse, s-alt, s-empty, s-plus, s-clock, PropertyAt, p-strong, p-weak, p-neg, p-either, p-both, p-imp, p-next, p-until, p-clock}
+use Rattle.table.specs.Check.{Asks, by-strong, by-weak, by-implies}
+use Rattle.table.specs.Flags.{tops, nothing, topsAt, thenTops, fusedTops, eitherTops, sequenceTops, nodeTops, topsBelow, hollowProperty, hollowNode, hollow}
+use Rattle.table.proofs.Shapes.{down}
+
+-- ---- the flags of each node, from those of the nodes below
+
+module _ (s : List ℕ) where
+  -- the flags of node k
+  abbrev pub flagsAt : ℕ → Tops
+  flagsAt k = nodeTops (topsBelow s k) (nodeAt s k)
+
+  long : (n : ℕ) → length (topsBelow s n) ≡ n
+  unfolding topsBelow
+  long zero = refl
+  long (suc n) = length-append (topsBelow s n) (flagsAt n ∷ []) ∙ (let e = long n in omega arith)
+
+  at : (n k : ℕ) → k < n → topsAt (topsBelow s n) k ≡ flagsAt k
+  unfolding topsBelow
+  at zero k h = absurd (not-suc-le-zero h)
+  at (suc n) k h =
+      ⊎-elim (λ e. rw e (getD-at (topsBelow s n) (flagsAt n) [] nothing n (long n)))
+      (λ l. List·getD-append (topsBelow s n) (flagsAt n ∷ []) nothing k (rw (long n) l) ∙ at n k l)
+      (eq-or-lt-of-le (le-of-suc-le-suc h))
+
+  then-flags : {k x y : ℕ} → nodeAt s k ≡ Sequence (Then x y) → x < k → y < k → flagsAt k ≡ thenTops (flagsAt x) (flagsAt y)
+  unfolding nodeTops sequenceTops
+  then-flags {k} {x} {y} e h g = rw (e, at k x h, at k y g)
+
+  fused-flags : {k x y : ℕ} → nodeAt s k ≡ Sequence (Fused x y) → x < k → y < k → flagsAt k ≡ fusedTops (flagsAt x) (flagsAt y)
+  unfolding nodeTops sequenceTops
+  fused-flags {k} {x} {y} e h g = rw (e, at k x h, at k y g)
+
+  either-flags : {k x y : ℕ} → nodeAt s k ≡ Sequence (Either x y) → x < k → y < k → flagsAt k ≡ eitherTops (flagsAt x) (flagsAt y)
+  unfolding nodeTops sequenceTops
+  either-flags {k} {x} {y} e h g = rw (e, at k x h, at k y g)
+
+  repeat-flags : {k x : ℕ} → nodeAt s k ≡ Sequence (Repeat x) → x < k → flagsAt k ≡ flagsAt x
+  unfolding nodeTops sequenceTops
+  repeat-flags {k} {x} e h = rw (e, at k x h)
+
+  clock-flags : {k c x : ℕ} → nodeAt s k ≡ Sequence (Clocked c x) → x < k → flagsAt k ≡ flagsAt x
+  unfolding nodeTops sequenceTops
+  clock-flags {k} {c} {x} e h = rw (e, at k x h)
+
+-- ---- the tests of matching, of letters ⊤ alone
+
+-- whether no letter matches, and whether some k letters ⊤ do, k at least 1
+abbrev Tested : Clock ℕ → Seq ℕ → Tops
+Tested κ r = tops (matchB signal κ r (λ p. top) 0 0) (topB signal κ r (λ p. top) 0 0)
+
+then-same : (a b : Tops) → thenTops a b ≡ tops ((a .empty && b .empty) || false) (((a .empty && b .some) || false) || (a .some && (b .empty || b .some)))
+then-same a b = rw (or-false (a .empty && b .empty), or-false (a .empty && b .some))
+
+repeat-same : (a : Tops) → a ≡ tops (a .empty) (a .some || ((a .empty && a .some) || false))
+repeat-same a = λ i. tops (a .empty) (go (a .empty) (a .some) i)
+  where
+    go : (e m : Bool) → m ≡ (m || ((e && m) || false))
+    go e true = refl
+    go e false = rw (and-false e)
+
+module _ (s : List ℕ) (n : ℕ) (fit : (k : ℕ) → k < n → WellFormed s k) where
+  tested : {k : ℕ} {r : Seq ℕ} → SequenceAt (nodeAt s) k r → k < n → (κ : Clock ℕ) → flagsAt s k ≡ Tested κ r
+  unfolding matchB topB plusB some every nodeTops sequenceTops
+  tested (s-one e d) h free = rw e
+  tested (s-one e d) h (on c) = rw e
+  tested {k} (s-cat {r = a} {s = b} e d f) h κ =
+      let (g, j) = down s k (fit k h) e in
+      then-flags s e (g .0) (j .0) ∙ rw (tested d (omega arith) κ, tested f (omega arith) κ) (then-same (Tested κ a) (Tested κ b))
+  tested {k} (s-fuse e d f) h κ =
+      let (g, j) = down s k (fit k h) e in
+      fused-flags s e (g .0) (j .0) ∙ rw (tested d (omega arith) κ, tested f (omega arith) κ)
+  tested {k} (s-alt e d f) h κ =
+      let (g, j) = down s k (fit k h) e in
+      either-flags s e (g .0) (j .0) ∙ rw (tested d (omega arith) κ, tested f (omega arith) κ)
+  tested (s-empty e d) h κ = rw e
+  tested {k} (s-plus {r = a} e d) h κ =
+      let g = down s k (fit k h) e in
+      repeat-flags s e (g .0) ∙ rw (tested d (omega arith) κ) (repeat-same (Tested κ a))
+  tested {k} (s-clock {b = b} e c d) h κ =
+      let (g, j) = down s k (fit k h) e in
+      clock-flags s e (j .0) ∙ tested d (omega arith) (on b)
+
+  topped-tells : {k : ℕ} {r : Seq ℕ} → SequenceAt (nodeAt s) k r → k < n → (κ : Clock ℕ) → Tells (flagsAt s k .some) (Topped signal κ r)
+  unfolding toppedB
+  topped-tells {r = r} d h κ = subst (λ (t : Tops). Tells (t .some) (Topped signal κ r)) (sym (tested d h κ)) (is-topped signal κ r)
+
+  -- ---- what a node asks of its sequence
+
+  module _ (k : ℕ) (h : k < n) where
+    pub asked : {v : Node} {x : ℕ} → Asks v x → nodeAt s k ≡ v → (hollowNode (topsBelow s k) v ≡ not (flagsAt s x .some)) × (x < k) × (sortAt s x ≡ sequence)
+    unfolding hollowNode hollowProperty
+    asked (by-strong {x = x}) e = let g = down s k (fit k h) e in (rw (at s k x (g .0)), g .0, g .1)
+    asked (by-weak {x = x}) e = let g = down s k (fit k h) e in (rw (at s k x (g .0)), g .0, g .1)
+    asked (by-implies {x = x}) e = let (g, j) = down s k (fit k h) e in (rw (at s k x (g .0)), g .0, g .1)
+
+    -- the node is hollow exactly if that sequence is not topped, whatever the clock
+    pub hollow-tells : {x : ℕ} {r : Seq ℕ} → Asks (nodeAt s k) x → SequenceAt (nodeAt s) x r → (κ : Clock ℕ) → Tells (hollow s k) (¬ Topped signal κ r)
+    unfolding hollow
+    hollow-tells {r = r} a d κ =
+        let (e, l, z) = asked a refl in
+        subst (λ (b : Bool). Tells b (¬ Topped signal κ r)) (sym e) (is-not (topped-tells d (omega arith) κ))
+
+    -- a hollow node asks for a sequence
+    pub asks : T (hollow s k) → (x : ℕ) × Asks (nodeAt s k) x
+    unfolding hollow hollowNode hollowProperty
+    asks = go (nodeAt s k)
+      where
+        go : (v : Node) → T (hollowNode (topsBelow s k) v) → (x : ℕ) × Asks v x
+        go (Boolean o) t = absurd t
+        go (Sequence o) t = absurd t
+        go (Property (Strong x)) t = (x, by-strong)
+        go (Property (Weak x)) t = (x, by-weak)
+        go (Property (Negated x)) t = absurd t
+        go (Property (AnyOf x y)) t = absurd t
+        go (Property (BothOf x y)) t = absurd t
+        go (Property (Implies x y)) t = (x, by-implies)
+        go (Property (Next x)) t = absurd t
+        go (Property (Until x y)) t = absurd t
+        go (Property (Ticked c x)) t = absurd t
+
+  -- ---- a property with no hollow node is accepted
+
+  module _ (solid : (k : ℕ) → k < n → hollow s k ≡ false) where
+    -- the test of a sequence that is asked for passes
+    asked-topped : {k x : ℕ} {v : Node} {r : Seq ℕ} → k < n → nodeAt s k ≡ v → Asks v x → SequenceAt (nodeAt s) x r → (κ : Clock ℕ) → Topped signal κ r
+    unfolding hollow
+    asked-topped {k} {x} h e a d κ =
+        let (f, l, z) = asked k h a e in
+        topped-tells d (omega arith) κ .to (go (flagsAt s x .some) (sym f ∙ ap (hollowNode (topsBelow s k)) (sym e) ∙ solid k h))
+      where
+        go : (b : Bool) → not b ≡ false → T b
+        go true q = tt
+        go false q = subst T q tt
+
+    pub accepted-at : {k : ℕ} {P : Prop ℕ} → PropertyAt (nodeAt s) k P → k < n → (κ : Clock ℕ) → Accepted signal κ P
+    unfolding Accepted
+    accepted-at (p-strong e d) h κ = asked-topped h e by-strong d κ
+    accepted-at (p-weak e d) h κ = asked-topped h e by-weak d κ
+    accepted-at {k} (p-neg e d) h κ = let g = down s k (fit k h) e in accepted-at d (omega arith) κ
+    accepted-at {k} (p-either e d f) h κ = let (g, j) = down s k (fit k h) e in (accepted-at d (omega arith) κ, accepted-at f (omega arith) κ)
+    accepted-at {k} (p-both e d f) h κ = let (g, j) = down s k (fit k h) e in (accepted-at d (omega arith) κ, accepted-at f (omega arith) κ)
+    accepted-at {k} (p-imp e d f) h κ = let (g, j) = down s k (fit k h) e in (asked-topped h e by-implies d κ, accepted-at f (omega arith) κ)
+    accepted-at {k} (p-next e d) h κ = let g = down s k (fit k h) e in accepted-at d (omega arith) κ
+    accepted-at {k} (p-until e d f) h κ = let (g, j) = down s k (fit k h) e in (accepted-at d (omega arith) κ, accepted-at f (omega arith) κ)
+    accepted-at {k} (p-clock {b = b} e c d) h κ = let (g, j) = down s k (fit k h) e in accepted-at d (omega arith) (on b)

@@ -1,0 +1,51 @@
+-- Document 01, "Numbers of refusal", for a table: when each number from 1 to 9 is given, and at which node. Assumes nothing.
+use mathlib.Core.Path.{_≡_}
+use mathlib.Core.Logic.{_⊎_}
+use mathlib.Core.List.{List, [], _∷_, _++_}
+use Prim.Native.Nat.{ℕ, _+_, _*_, _<_}
+use lib.ListN.{length}
+use Rattle.refusal.specs.declared.Verdict.{Verdict}
+use Rattle.refusal.specs.First.{Refusal, when, atLowest, Answers}
+use Rattle.refusal.specs.Heading.{heading, count}
+use Rattle.meaning.specs.Syntax.{Seq, Clock}
+use Rattle.meaning.specs.Meaning.{Topped}
+use Rattle.meaning.specs.Signal.{signal}
+use Rattle.table.specs.declared.nodes.Node.{Node}
+use Rattle.table.specs.declared.nodes.Node.the-variants.{Property}
+use Rattle.table.specs.declared.nodes.PropertyOp.the-variants.{Strong, Weak, Implies}
+use Rattle.table.specs.Operators.{boolean}
+use Rattle.table.specs.Nodes.{sortAt, nodeAt, root, WellFormed, Astray}
+use Rattle.table.specs.Trees.{SequenceAt, Ref, ClockOf, ClockAt}
+
+-- strong, weak or `|->` over x
+pub data Asks : Node → ℕ → Type 0 where
+  by-strong : {x : ℕ} → Asks (Property (Strong x)) x
+  by-weak : {x : ℕ} → Asks (Property (Weak x)) x
+  by-implies : {x y : ℕ} → Asks (Property (Implies x y)) x
+
+-- strong, weak or `|->` over a sequence that matches, under the node's clock, no k letters ⊤, k at least 1
+pub record Hollow (s : List ℕ) (k : ℕ) : Type 0 where
+  pub x : ℕ
+  pub asks : Asks (nodeAt s k) x
+  pub sequence : Seq ℕ
+  pub stands : SequenceAt (nodeAt s) x sequence
+  pub ref : Ref
+  pub clocked : ClockOf s k ref
+  pub clock : Clock ℕ
+  pub means : ClockAt (nodeAt s) ref clock
+  pub never : ¬ Topped signal clock sequence
+
+unfoldable pub refusals : List ℕ → List Refusal
+refusals s =
+    heading 0x54 s
+    ++ (when 4 ((count s ≡ 0) ⊎ (120 < count s))
+    ∷ when 5 (¬ (length s ≡ 6 + 4 * count s))
+    ∷ atLowest 6 (count s) (λ k. ¬ WellFormed s k)
+    ∷ atLowest 7 (count s) (Astray s (count s))
+    ∷ when 8 (sortAt s (root s) ≡ boolean)
+    ∷ atLowest 9 (count s) (Hollow s)
+    ∷ [])
+
+-- THE STATEMENT of checking a table. No second verdict fits (`proofs/Theorems.antt`, `unique`)
+abbrev pub Checks : List ℕ → Verdict → Type 0
+Checks s v = Answers (refusals s) v

@@ -1,0 +1,59 @@
+-- The refusals of a table as tests that antt computes: what the code is held to. `proofs/Checking.antt` shows that they decide the refusals of Check.antt.
+-- Assumes nothing.
+use mathlib.Core.Path.{_≡_}
+use mathlib.Core.Bool.{Bool, false, not, cond, _||_}
+use mathlib.Core.List.{List, [], _∷_, _++_}
+use Prim.Native.Nat.{ℕ, _+_, _*_, _-_, _<_}
+use lib.Dec.{ltb, eqb}
+use lib.ListN.{length, getD}
+use Rattle.refusal.specs.declared.Verdict.{Verdict}
+use Rattle.refusal.specs.Cases.{Case, at0, atFirst, firstCase}
+use Rattle.refusal.specs.Heading.{headingCases, count}
+use Rattle.table.specs.Operators.{none, boolean, sequence}
+use Rattle.table.specs.Nodes.{rawAt, rowAt, sortAt, usesOf}
+use Rattle.table.specs.Flags.{hollow}
+
+-- ---- 6
+
+unfoldable pub operandFits : List ℕ → ℕ → ℕ → ℕ → ℕ → Bool
+operandFits s k sort limit v = cond (eqb sort none) (ltb v limit) (cond (ltb v k) (eqb (sortAt s v) sort) false)
+
+unfoldable pub nodeFits : List ℕ → ℕ → Bool
+nodeFits s k =
+    cond (eqb (sortAt s k) none) false
+    (cond (eqb (rawAt s k .fourth) 0)
+    (cond (operandFits s k (rowAt s k .x) (rowAt s k .limit) (rawAt s k .x)) (operandFits s k (rowAt s k .y) 1 (rawAt s k .y)) false)
+    false)
+
+abbrev pub unfit : List ℕ → ℕ → Bool
+unfit s k = not (nodeFits s k)
+
+-- ---- 7
+
+-- where the operand byte v is counted
+unfoldable pub slotOf : ℕ → ℕ → ℕ
+slotOf sort v = cond (eqb sort none) 120 (cond (ltb v 120) v 120)
+
+-- each of the counts is that of its node, in the n nodes
+unfoldable pub Counted : List ℕ → ℕ → List ℕ → Type 0
+Counted s n uses = (k : ℕ) → k < 120 → getD uses k 0 ≡ usesOf s k n
+
+unfoldable pub astray : List ℕ → ℕ → ℕ → Bool
+astray s n k = cond (ltb (sortAt s k) sequence) false (cond (eqb (k + 1) n) false (not (eqb (usesOf s k n) 1)))
+
+-- ---- all
+
+unfoldable pub nodeCases : List ℕ → ℕ → List Case
+nodeCases s n =
+    atFirst 6 n (unfit s) ∷ atFirst 7 n (astray s n) ∷ at0 8 (eqb (sortAt s (n - 1)) boolean) ∷ atFirst 9 n (hollow s) ∷ []
+
+-- after the tests of the first six bytes
+unfoldable pub laterCases : List ℕ → List Case
+laterCases s =
+    at0 4 (eqb (count s) 0 || ltb 120 (count s)) ∷ at0 5 (not (eqb (length s) (4 * count s + 6))) ∷ nodeCases s (count s)
+
+abbrev pub cases : List ℕ → List Case
+cases s = headingCases 0x54 s ++ laterCases s
+
+unfoldable pub checked : List ℕ → Verdict
+checked s = firstCase (cases s)

@@ -1,0 +1,84 @@
+-- The tree that each node of a table stands for, and the clock of a node. T gives the nodes. Assumes nothing.
+use mathlib.Core.Path.{_≡_}
+use mathlib.Core.List.{List}
+use Prim.Native.Nat.{ℕ, _≤_}
+use lib.Dec.{eqb}
+use Rattle.meaning.specs.Syntax.{Bexp, const, atom, nott, andd, orr, Seq, one, cat, fuse, alt, empty, plus, clocked, Prop, strong, weak, neg, either, both, implies, next, until, under, Clock, free, on}
+use Rattle.table.specs.declared.nodes.Node.{Node}
+use Rattle.table.specs.declared.nodes.Node.the-variants.{Boolean, Sequence, Property}
+use Rattle.table.specs.declared.nodes.BooleanOp.the-variants.{Constant, Signal, Not, And, Or}
+use Rattle.table.specs.declared.nodes.SequenceOp.the-variants.{Letter, Then, Fused, Either, Empty, Repeat, Clocked}
+use Rattle.table.specs.declared.nodes.PropertyOp.the-variants.{Strong, Weak, Negated, AnyOf, BothOf, Implies, Next, Until, Ticked}
+use Rattle.table.specs.Operators.{sequence}
+use Rattle.table.specs.Nodes.{rawAt, rowAt, nodeAt, root}
+
+-- ---- trees
+
+pub data BooleanAt (T : ℕ → Node) : ℕ → Bexp ℕ → Type 0 where
+  b-const : {k v : ℕ} → T k ≡ Boolean (Constant v) → BooleanAt T k (const (eqb v 1))
+  b-sig : {k x : ℕ} → T k ≡ Boolean (Signal x) → BooleanAt T k (atom x)
+  b-not : {k x : ℕ} {b : Bexp ℕ} → T k ≡ Boolean (Not x) → BooleanAt T x b → BooleanAt T k (nott b)
+  b-and : {k x y : ℕ} {b d : Bexp ℕ} → T k ≡ Boolean (And x y) → BooleanAt T x b → BooleanAt T y d → BooleanAt T k (andd b d)
+  b-or : {k x y : ℕ} {b d : Bexp ℕ} → T k ≡ Boolean (Or x y) → BooleanAt T x b → BooleanAt T y d → BooleanAt T k (orr b d)
+
+pub data SequenceAt (T : ℕ → Node) : ℕ → Seq ℕ → Type 0 where
+  s-one : {k x : ℕ} {b : Bexp ℕ} → T k ≡ Sequence (Letter x) → BooleanAt T x b → SequenceAt T k (one b)
+  s-cat : {k x y : ℕ} {r s : Seq ℕ} → T k ≡ Sequence (Then x y) → SequenceAt T x r → SequenceAt T y s → SequenceAt T k (cat r s)
+  s-fuse : {k x y : ℕ} {r s : Seq ℕ} → T k ≡ Sequence (Fused x y) → SequenceAt T x r → SequenceAt T y s → SequenceAt T k (fuse r s)
+  s-alt : {k x y : ℕ} {r s : Seq ℕ} → T k ≡ Sequence (Either x y) → SequenceAt T x r → SequenceAt T y s → SequenceAt T k (alt r s)
+  s-empty : {k x : ℕ} {r : Seq ℕ} → T k ≡ Sequence (Empty x) → SequenceAt T x r → SequenceAt T k (empty r)
+  s-plus : {k x : ℕ} {r : Seq ℕ} → T k ≡ Sequence (Repeat x) → SequenceAt T x r → SequenceAt T k (plus r)
+  s-clock : {k c x : ℕ} {b : Bexp ℕ} {r : Seq ℕ} → T k ≡ Sequence (Clocked c x) → BooleanAt T c b → SequenceAt T x r → SequenceAt T k (clocked b r)
+
+pub data PropertyAt (T : ℕ → Node) : ℕ → Prop ℕ → Type 0 where
+  p-strong : {k x : ℕ} {r : Seq ℕ} → T k ≡ Property (Strong x) → SequenceAt T x r → PropertyAt T k (strong r)
+  p-weak : {k x : ℕ} {r : Seq ℕ} → T k ≡ Property (Weak x) → SequenceAt T x r → PropertyAt T k (weak r)
+  p-neg : {k x : ℕ} {P : Prop ℕ} → T k ≡ Property (Negated x) → PropertyAt T x P → PropertyAt T k (neg P)
+  p-either : {k x y : ℕ} {P Q : Prop ℕ} → T k ≡ Property (AnyOf x y) → PropertyAt T x P → PropertyAt T y Q → PropertyAt T k (either P Q)
+  p-both : {k x y : ℕ} {P Q : Prop ℕ} → T k ≡ Property (BothOf x y) → PropertyAt T x P → PropertyAt T y Q → PropertyAt T k (both P Q)
+  p-imp : {k x y : ℕ} {r : Seq ℕ} {P : Prop ℕ} → T k ≡ Property (Implies x y) → SequenceAt T x r → PropertyAt T y P → PropertyAt T k (implies r P)
+  p-next : {k x : ℕ} {P : Prop ℕ} → T k ≡ Property (Next x) → PropertyAt T x P → PropertyAt T k (next P)
+  p-until : {k x y : ℕ} {P Q : Prop ℕ} → T k ≡ Property (Until x y) → PropertyAt T x P → PropertyAt T y Q → PropertyAt T k (until P Q)
+  p-clock : {k c x : ℕ} {b : Bexp ℕ} {P : Prop ℕ} → T k ≡ Property (Ticked c x) → BooleanAt T c b → PropertyAt T x P → PropertyAt T k (under b P)
+
+-- ---- clocks
+
+-- a clock by the number of its condition's node
+pub data Ref : Type 0 where
+  freeR : Ref
+  onR : ℕ → Ref
+
+-- the node that stands at an operand place of p is a sequence or a property, and is k
+pub data Part (s : List ℕ) (p k : ℕ) : Type 0 where
+  at-x : sequence ≤ rowAt s p .x → rawAt s p .x ≡ k → Part s p k
+  at-y : sequence ≤ rowAt s p .y → rawAt s p .y ≡ k → Part s p k
+
+-- the clock that a node whose own is ρ hands down to its parts: a clock node its condition, any other its own
+abbrev pub handed : Node → Ref → Ref
+handed (Boolean o) ρ = ρ
+handed (Sequence (Letter x)) ρ = ρ
+handed (Sequence (Then x y)) ρ = ρ
+handed (Sequence (Fused x y)) ρ = ρ
+handed (Sequence (Either x y)) ρ = ρ
+handed (Sequence (Empty x)) ρ = ρ
+handed (Sequence (Repeat x)) ρ = ρ
+handed (Sequence (Clocked c x)) ρ = onR c
+handed (Property (Strong x)) ρ = ρ
+handed (Property (Weak x)) ρ = ρ
+handed (Property (Negated x)) ρ = ρ
+handed (Property (AnyOf x y)) ρ = ρ
+handed (Property (BothOf x y)) ρ = ρ
+handed (Property (Implies x y)) ρ = ρ
+handed (Property (Next x)) ρ = ρ
+handed (Property (Until x y)) ρ = ρ
+handed (Property (Ticked c x)) ρ = onR c
+
+-- a node's clock is the condition of the nearest clock node above it, if any: the root has none, and each part has what is handed down to it
+pub data ClockOf (s : List ℕ) : ℕ → Ref → Type 0 where
+  c-root : ClockOf s (root s) freeR
+  c-part : {p k : ℕ} {ρ : Ref} → ClockOf s p ρ → Part s p k → ClockOf s k (handed (nodeAt s p) ρ)
+
+-- the clock that the number stands for
+pub data ClockAt (T : ℕ → Node) : Ref → Clock ℕ → Type 0 where
+  c-free : ClockAt T freeR free
+  c-on : {c : ℕ} {b : Bexp ℕ} → BooleanAt T c b → ClockAt T (onR c) (on b)
