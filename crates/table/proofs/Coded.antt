@@ -1,110 +1,65 @@
--- A node and its bytes: the node that is decoded from fitting bytes has those bytes. So a decoded node says all that they say.
+-- A node and its bytes: the node that is decoded from bytes that a node can have has those bytes. So a decoded node says all that they say.
 -- Assumes nothing.
-use borrow.Author.Tests.{eqb-true, eqb-false}
+use borrow.Author.Tests.{eqb-true}
 use mathlib.Core.Path.{_≡_, refl, _∙_, sym, ap}
 use mathlib.Core.Bool.{Bool, true, false, cond}
-use mathlib.Core.List.{List, [], _∷_}
+use mathlib.Core.List.{List, [], _∷_, map}
 use Prim.Native.Nat.{ℕ}
 use lib.Dec.{eqb}
 use Rattle.table.specs.declared.nodes.Raw.{Raw}
 use Rattle.table.specs.declared.nodes.Node.{Node}
-use Rattle.table.specs.Operators.{none, Decodes, Entry, operators, rowIn, rowOf, makeIn, nodeOf, bytes, bytesOf, booleanBytes, sequenceBytes, propertyBytes}
+use Rattle.table.specs.declared.nodes.Node.the-variants.{Boolean}
+use Rattle.table.specs.declared.nodes.BooleanOp.the-variants.{Constant}
+use Rattle.table.specs.Operators.{none, Entry, operators, unknown, lookup, rowOf, nodeOf, bytes, bytesOf, booleanBytes, sequenceBytes, propertyBytes, Written, Decodes}
+use Rattle.table.proofs.Lookup.{of-lookup}
 
--- the node of a line has the line's code, and y where the line uses it
-abbrev Right : Entry → Type 0
-Right e = (x y : ℕ) → bytesOf (e .make x y) ≡ bytes (e .code) x (cond (eqb (e .row .y) none) 0 y)
+-- the bytes of a line's node, and what they should be: the line's code, x, and y where the line uses it
+abbrev made : Entry → ℕ → ℕ → Raw
+made e x y = bytesOf (e .make x y)
 
-abbrev AllRight : List Entry → Type 0
-AllRight [] = Unit {0}
-AllRight (e ∷ es) = Right e × AllRight es
+abbrev meant : Entry → ℕ → ℕ → Raw
+meant e x y = bytes (e .code) x (cond (eqb (e .row .y) none) 0 y)
 
-all-right : AllRight operators
+-- antt computes the two for all lines at once
+all-meant : map made operators ≡ map meant operators
 unfolding operators bytesOf booleanBytes sequenceBytes propertyBytes
-all-right = (
-  λ x y. refl,
-  (
-    λ x y. refl,
-    (
-      λ x y. refl,
-      (
-        λ x y. refl,
-        (
-          λ x y. refl,
-          (
-            λ x y. refl,
-            (
-              λ x y. refl,
-              (
-                λ x y. refl,
-                (
-                  λ x y. refl,
-                  (
-                    λ x y. refl,
-                    (
-                      λ x y. refl,
-                      (
-                        λ x y. refl,
-                        (
-                          λ x y. refl,
-                          (
-                            λ x y. refl,
-                            (
-                              λ x y. refl,
-                              (
-                                λ x y. refl,
-                                (
-                                  λ x y. refl,
-                                  (
-                                    λ x y. refl,
-                                    (
-                                      λ x y. refl,
-                                      (
-                                        λ x y. refl,
-                                        (
-                                          λ x y. refl,
-                                          tt,
-                                        ),
-                                      ),
-                                    ),
-                                  ),
-                                ),
-                              ),
-                            ),
-                          ),
-                        ),
-                      ),
-                    ),
-                  ),
-                ),
-              ),
-            ),
-          ),
-        ),
-      ),
-    ),
-  ),
-)
+all-meant = refl
 
-coded-in : (es : List Entry) → AllRight es → (op x y : ℕ) → (rowIn es op .own ≡ none → ⊥) →
-    (rowIn es op .y ≡ none → y ≡ 0) → bytesOf (makeIn es op x y) ≡ bytes op x y
-unfolding rowIn makeIn
-coded-in [] a op x y k u = absurd (k refl)
-coded-in (e ∷ es) a op x y k u = go (coded-in es (a .1) op x y) (eqb op (e .code)) refl
+meant-in : (es : List Entry) → map made es ≡ map meant es → (n : Raw) → ¬ (lookup (λ e. e .row) unknown es (n .op) .own ≡ none)
+    → (lookup (λ e. e .row) unknown es (n .op) .y ≡ none → n .y ≡ 0)
+    → lookup (λ e. made e (n .x) (n .y)) (bytesOf (Boolean (Constant 0))) es (n .op) ≡ bytes (n .op) (n .x) (n .y)
+unfolding lookup
+meant-in [] q n k u = absurd (k refl)
+meant-in (e ∷ es) q n k u = go (meant-in es tails n) (eqb (n .op) (e .code)) refl k u
   where
-    used : (b : Bool) → eqb (e .row .y) none ≡ b → (e .row .y ≡ none → y ≡ 0) → cond b 0 y ≡ y
-    used true p v = sym (v (eqb-true (e .row .y) none p))
-    used false p v = refl
+    heads : made e ≡ meant e
+    heads = cc q
 
-    go : ((rowIn es op .own ≡ none → ⊥) → (rowIn es op .y ≡ none → y ≡ 0) → bytesOf (makeIn es op x y) ≡ bytes op x y) →
-        (b : Bool) → eqb op (e .code) ≡ b → bytesOf (makeIn (e ∷ es) op x y) ≡ bytes op x y
-    go ih true p =
-        rw p (a .0 x y ∙ (λ i. bytes (sym (eqb-true op (e .code) p) i) x (used (eqb (e .row .y) none) refl (simp p at u) i)))
-    go ih false p = rw p (ih (simp p at k) (simp p at u))
+    tails : map made es ≡ map meant es
+    tails = cc q
 
-pub coded : (n : Raw) → (rowOf (n .op) .own ≡ none → ⊥) → (rowOf (n .op) .y ≡ none → n .y ≡ 0) → n .fourth ≡ 0 → bytesOf (nodeOf n) ≡ n
+    used : (e .row .y ≡ none → n .y ≡ 0) → cond (eqb (e .row .y) none) 0 (n .y) ≡ n .y
+    used v = at (eqb (e .row .y) none) refl
+      where
+        at : (b : Bool) → eqb (e .row .y) none ≡ b → cond b 0 (n .y) ≡ n .y
+        at true p = sym (v (eqb-true (e .row .y) none p))
+        at false p = refl
+
+    go : (¬ (lookup (λ e. e .row) unknown es (n .op) .own ≡ none) → (lookup (λ e. e .row) unknown es (n .op) .y ≡ none → n .y ≡ 0)
+        → lookup (λ e. made e (n .x) (n .y)) (bytesOf (Boolean (Constant 0))) es (n .op) ≡ bytes (n .op) (n .x) (n .y))
+        → (b : Bool) → eqb (n .op) (e .code) ≡ b → ¬ (cond b (e .row) (lookup (λ e. e .row) unknown es (n .op)) .own ≡ none)
+        → (cond b (e .row) (lookup (λ e. e .row) unknown es (n .op)) .y ≡ none → n .y ≡ 0)
+        → cond b (made e (n .x) (n .y)) (lookup (λ e. made e (n .x) (n .y)) (bytesOf (Boolean (Constant 0))) es (n .op)) ≡ bytes (n .op) (n .x) (n .y)
+    go later true p k u =
+        ap (λ (f : ℕ → ℕ → Raw). f (n .x) (n .y)) heads ∙ (λ i. bytes (sym (eqb-true (n .op) (e .code) p) i) (n .x) (used u i))
+    go later false p k u = later k u
+
+pub coded : (n : Raw) → Written n → bytesOf (nodeOf n) ≡ n
 unfolding rowOf nodeOf
-coded n k u l = coded-in operators all-right (n .op) (n .x) (n .y) k u ∙ (λ i. record { op = n .op; x = n .x; y = n .y; fourth = sym l i })
+coded n w =
+    of-lookup bytesOf (λ e. e .make (n .x) (n .y)) (Boolean (Constant 0)) operators (n .op)
+    ∙ meant-in operators all-meant n (w .known) (w .unused) ∙ (λ i. record { op = n .op; x = n .x; y = n .y; fourth = sym (w .fourth) i })
 
 -- what the table of operators makes of the bytes is decoded from them
 pub decodes : (n : Raw) (r : Node) → r ≡ nodeOf n → Decodes n r
-decodes n r e = record { made = e; same = λ w. ap bytesOf e ∙ coded n (w .known) (w .unused) (w .fourth) }
+decodes n r e = record { made = e; same = λ w. ap bytesOf e ∙ coded n w }

@@ -37,4 +37,5 @@ fits-tells s k =
 -- the decoded node says what its bytes say
 pub coded-at : (s : List ℕ) (k : ℕ) → WellFormed s k → bytesOf (nodeAt s k) ≡ rawAt s k
 unfolding sortAt
-coded-at s k w = coded (rawAt s k) (w .known) (λ z. let h = w .y .number z in omega arith) (w .fourth)
+coded-at s k w =
+    coded (rawAt s k) (record { known = w .known; unused = λ z. let h = w .y .number z in omega arith; fourth = w .fourth })

@@ -1,6 +1,6 @@
 -- Laws that the proofs of this crate and of the crates above cite.
 pub mod Theorems
-pub mod Tabulate
+pub mod Lookup
 pub mod Coded
 pub mod Forming
 pub mod Shapes

@@ -10,7 +10,8 @@ use Prim.Native.Nat.{ℕ, zero, suc, _+_, _<_, _≤_}
 use lib.Dec.{T, eqb, ltb, leb, leb→le}
 use Rattle.tests.proofs.Telling.{is-and, is-or, is-le, is-test}
 use Rattle.meaning.proofs.Order.{side}
-use Rattle.table.specs.Operators.{none, sequence, property, Entry, operators, rowIn, rowOf}
+use Rattle.table.specs.declared.operators.Row.{Row}
+use Rattle.table.specs.Operators.{none, sequence, property, Entry, operators, unknown, lookup, rowOf}
 use Rattle.table.specs.Nodes.{rawAt, rowAt, sortAt, hitsOf, placesOf, usesOf, WellFormed}
 use Rattle.table.specs.Trees.{Part, at-x, at-y}
 
@@ -38,10 +39,10 @@ hits-one sort v h = rw (ne-eqb sort none h, eq-eqb v v refl)
 fine : Entry → Bool
 fine e = leb (e .row .own) property && ((leb (e .row .x) 1 || leb sequence (e .row .own)) && (leb (e .row .y) 1 || leb sequence (e .row .own)))
 
-abbrev Fine : ℕ → ℕ → ℕ → Type 0
-Fine own x y = (own ≤ property) × (sequence ≤ x → sequence ≤ own) × (sequence ≤ y → sequence ≤ own)
+abbrev Fine : Row → Type 0
+Fine r = (r .own ≤ property) × (sequence ≤ r .x → sequence ≤ r .own) × (sequence ≤ r .y → sequence ≤ r .own)
 
-fine-of : (e : Entry) → T (fine e) → Fine (e .row .own) (e .row .x) (e .row .y)
+fine-of : (e : Entry) → T (fine e) → Fine (e .row)
 unfolding fine
 fine-of e t =
     let own = e .row .own in
@@ -52,19 +53,19 @@ all-fine : List Entry → Bool
 all-fine [] = true
 all-fine (e ∷ es) = fine e && all-fine es
 
-fine-in : (es : List Entry) → T (all-fine es) → (op : ℕ) → Fine (rowIn es op .own) (rowIn es op .x) (rowIn es op .y)
-unfolding all-fine fine rowIn
+-- the row that is looked up is one of the table's, or the unknown one
+fine-in : (es : List Entry) → T (all-fine es) → (op : ℕ) → Fine (lookup (λ e. e .row) unknown es op)
+unfolding all-fine lookup
 fine-in [] t op = (omega arith, λ h. absurd (omega arith), λ h. absurd (omega arith))
 fine-in (e ∷ es) t op =
     let (f, r) = is-and (is-test (fine e)) (is-test (all-fine es)) .to t in
     go (fine-of e f) (fine-in es r op) (eqb op (e .code))
   where
-    go : Fine (e .row .own) (e .row .x) (e .row .y) → Fine (rowIn es op .own) (rowIn es op .x) (rowIn es op .y) → (b : Bool)
-        → Fine (cond b (e .row) (rowIn es op) .own) (cond b (e .row) (rowIn es op) .x) (cond b (e .row) (rowIn es op) .y)
+    go : Fine (e .row) → Fine (lookup (λ e. e .row) unknown es op) → (b : Bool) → Fine (cond b (e .row) (lookup (λ e. e .row) unknown es op))
     go f r true = f
     go f r false = r
 
-pub fine-row : (op : ℕ) → Fine (rowOf op .own) (rowOf op .x) (rowOf op .y)
+pub fine-row : (op : ℕ) → Fine (rowOf op)
 unfolding rowOf operators all-fine fine
 fine-row = fine-in operators tt
 

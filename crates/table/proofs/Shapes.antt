@@ -11,7 +11,7 @@ use Rattle.table.specs.declared.nodes.Node.the-variants.{Boolean, Sequen
 use Rattle.table.specs.declared.nodes.BooleanOp.the-variants.{Constant, Signal, Not, And, Or}
 use Rattle.table.specs.declared.nodes.SequenceOp.the-variants.{Letter, Then, Fused, Either, Empty, Repeat, Clocked}
 use Rattle.table.specs.declared.nodes.PropertyOp.the-variants.{Strong, Weak, Negated, AnyOf, BothOf, Implies, Next, Until, Ticked}
-use Rattle.table.specs.Operators.{boolean, sequence, property, operators, rowIn, rowOf, bytesOf, booleanBytes, sequenceBytes, propertyBytes}
+use Rattle.table.specs.Operators.{boolean, sequence, property, operators, lookup, rowOf, bytesOf, booleanBytes, sequenceBytes, propertyBytes}
 use Rattle.table.specs.Nodes.{rawAt, rowAt, sortAt, nodeAt, WellFormed}
 use Rattle.table.specs.Trees.{Part, at-x, at-y}
 use Rattle.table.proofs.Forming.{coded-at}
@@ -48,7 +48,7 @@ module _ (Q : ℕ → ℕ → Type 0) where
 
   formed : (v : Node) → (T (ltb 0 (rowOf (bytesOf v .op) .x)) → Q (rowOf (bytesOf v .op) .x) (bytesOf v .x))
       → (T (ltb 0 (rowOf (bytesOf v .op) .y)) → Q (rowOf (bytesOf v .op) .y) (bytesOf v .y)) → Formed v
-  unfolding rowOf rowIn operators bytesOf booleanBytes sequenceBytes propertyBytes
+  unfolding rowOf lookup operators bytesOf booleanBytes sequenceBytes propertyBytes
   formed (Boolean (Constant v)) f g = tt
   formed (Boolean (Signal x)) f g = tt
   formed (Boolean (Not x)) f g = f tt
@@ -72,7 +72,7 @@ module _ (Q : ℕ → ℕ → Type 0) where
   formed (Property (Ticked c x)) f g = (f tt, g tt)
 
 pub sorted : (v : Node) → rowOf (bytesOf v .op) .own ≡ sortOf v
-unfolding rowOf rowIn operators bytesOf booleanBytes sequenceBytes propertyBytes
+unfolding rowOf lookup operators bytesOf booleanBytes sequenceBytes propertyBytes
 sorted (Boolean (Constant v)) = refl
 sorted (Boolean (Signal x)) = refl
 sorted (Boolean (Not x)) = refl

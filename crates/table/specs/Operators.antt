@@ -72,21 +72,17 @@ operators =
 abbrev pub unknown : Row
 unknown = record { own = none; x = none; limit = 0; y = none; block = 0 }
 
--- the row of the entry with the code, or `unknown`
-unfoldable pub rowIn : List Entry → ℕ → Row
-rowIn [] op = unknown
-rowIn (e ∷ es) op = cond (eqb op (e .code)) (e .row) (rowIn es op)
+-- what the line with the code says, or d where there is no such line
+unfoldable pub lookup : {A : Type 0} → (Entry → A) → A → List Entry → ℕ → A
+lookup f d [] op = d
+lookup f d (e ∷ es) op = cond (eqb op (e .code)) (f e) (lookup f d es op)
 
 unfoldable pub rowOf : ℕ → Row
-rowOf op = rowIn operators op
+rowOf op = lookup (λ e. e .row) unknown operators op
 
--- the node of the entry with the code; an unknown operator, which no accepted table has, stands for the constant 0
-unfoldable pub makeIn : List Entry → ℕ → ℕ → ℕ → Node
-makeIn [] op x y = Boolean (Constant 0)
-makeIn (e ∷ es) op x y = cond (eqb op (e .code)) (e .make x y) (makeIn es op x y)
-
+-- an unknown operator, which no accepted table has, stands for the constant 0
 unfoldable pub nodeOf : Raw → Node
-nodeOf n = makeIn operators (n .op) (n .x) (n .y)
+nodeOf n = lookup (λ e. e .make (n .x) (n .y)) (Boolean (Constant 0)) operators (n .op)
 
 -- ---- a node as its four bytes, for each case of every enum
 

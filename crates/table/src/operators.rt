@@ -148,51 +148,6 @@ const PROPERTY_CLOCK: Row = Row {
     block: 0,
 };
 
-// The rows by operator.
-const ROWS: [Row; 41] = [
-    CONSTANT,
-    SIGNAL,
-    BOOLEAN_NOT,
-    BOOLEAN_TWO,
-    BOOLEAN_TWO,
-    UNKNOWN,
-    UNKNOWN,
-    UNKNOWN,
-    UNKNOWN,
-    UNKNOWN,
-    UNKNOWN,
-    UNKNOWN,
-    UNKNOWN,
-    UNKNOWN,
-    UNKNOWN,
-    UNKNOWN,
-    LETTER,
-    SEQUENCE_TWO,
-    SEQUENCE_TWO,
-    SEQUENCE_TWO,
-    SEQUENCE_ONE,
-    SEQUENCE_ONE,
-    SEQUENCE_CLOCK,
-    UNKNOWN,
-    UNKNOWN,
-    UNKNOWN,
-    UNKNOWN,
-    UNKNOWN,
-    UNKNOWN,
-    UNKNOWN,
-    UNKNOWN,
-    UNKNOWN,
-    OF_SEQUENCE,
-    OF_SEQUENCE,
-    PROPERTY_NOT,
-    PROPERTY_TWO,
-    PROPERTY_TWO,
-    IMPLIES,
-    NEXTTIME,
-    UNTIL,
-    PROPERTY_CLOCK,
-];
-
 // A byte as an index.
 pub fn wide(x: u8) -> usize
     ensures { λ r. ⌜ r ≡ x ⌝ }
@@ -200,10 +155,32 @@ pub fn wide(x: u8) -> usize
     x as usize
 }
 
-// The row of an operator.
+// The row of an operator. (A match, since a constant array would be built anew on the stack at each use.)
 pub fn row_of(op: u8) -> Row
     ensures { λ r. ⌜ r ≡ rowOf op ⌝ }
 {
-    let i = wide(op);
-    if i < 41 { ROWS[i] } else { UNKNOWN }
+    match op {
+        0 => CONSTANT,
+        1 => SIGNAL,
+        2 => BOOLEAN_NOT,
+        3 => BOOLEAN_TWO,
+        4 => BOOLEAN_TWO,
+        16 => LETTER,
+        17 => SEQUENCE_TWO,
+        18 => SEQUENCE_TWO,
+        19 => SEQUENCE_TWO,
+        20 => SEQUENCE_ONE,
+        21 => SEQUENCE_ONE,
+        22 => SEQUENCE_CLOCK,
+        32 => OF_SEQUENCE,
+        33 => OF_SEQUENCE,
+        34 => PROPERTY_NOT,
+        35 => PROPERTY_TWO,
+        36 => PROPERTY_TWO,
+        37 => IMPLIES,
+        38 => NEXTTIME,
+        39 => UNTIL,
+        40 => PROPERTY_CLOCK,
+        _ => UNKNOWN,
+    }
 }

@@ -2,32 +2,19 @@
 -- last arm is past every line.
 -- Assumes nothing.
 use borrow.Author.Needs.{needs}
-use borrow.Author.Tests.{ne-eqb}
-use mathlib.Core.Path.{_≡_, refl, sym}
-use mathlib.Core.List.{List, [], _∷_}
+use mathlib.Core.Path.{_≡_, sym}
 use Prim.Native.Nat.{ℕ}
 use Rattle.table.specs.declared.nodes.Node.the-variants.{Boolean}
 use Rattle.table.specs.declared.nodes.BooleanOp.the-variants.{Constant}
-use Rattle.table.specs.Operators.{Entry, operators, makeIn, nodeOf}
+use Rattle.table.specs.Operators.{operators, lookup, nodeOf}
+use Rattle.table.proofs.Lookup.{past}
 use Rattle.table.proofs.Coded.{decodes}
 use Rattle.table.proofs.nodes.decode.Statement.{statement}
 use Rattle.table.proofs.nodes.decode.Tie as tie
 
--- op is the code of no line, as a match has it: a tuple nested to the left
-abbrev NotAmong : Type 0 → List Entry → ℕ → Type 0
-NotAmong acc [] op = acc
-NotAmong acc (e ∷ es) op = NotAmong (acc × (op ≡ e .code → ⊥)) es op
-
-past : (acc : Type 0) (es : List Entry) (op x y : ℕ) → NotAmong acc es op → (makeIn es op x y ≡ Boolean (Constant 0)) × acc
-unfolding makeIn
-past acc [] op x y h = (refl, h)
-past acc (e ∷ es) op x y h =
-    let p = past (acc × (op ≡ e .code → ⊥)) es op x y h in
-    (simp (ne-eqb op (e .code) (p .1 .1)) (p .0), p .1 .0)
-
 -- the operands are what was read
 keyed : (c : tie.After-wide2) (op : ℕ) → c .before .before .args .n .op ≡ op →
-    makeIn operators op (c .before .wide .result) (c .wide2 .result) ≡ nodeOf (c .before .before .args .n)
+    lookup (λ e. e .make (c .before .wide .result) (c .wide2 .result)) (Boolean (Constant 0)) operators op ≡ nodeOf (c .before .before .args .n)
 unfolding nodeOf
 keyed c op e = rw (c .before .wide .ensures, c .wide2 .ensures, ← e)
 
@@ -39,10 +26,10 @@ wide-requires-2 c κs = search needs
 
 returns-22 : tie.Need-returns-22
 unfolding nodeOf operators
-returns-22 c = decodes _ _ (sym (past (Unit {0}) operators _ _ _ (c .match .rest) .0))
+returns-22 c = decodes _ _ (sym (past _ (Boolean (Constant 0)) (Unit {0}) operators _ (c .match .rest) .0))
 
 pub decode-spec : {M : Type 1} → statement M
-unfolding makeIn operators
+unfolding lookup operators
 decode-spec =
     tie.close
     (tie.spec

@@ -1,43 +1,35 @@
--- `table::operators::row_of` meets its contract: antt computes the 41 rows from the document's entries, and they are those of the code.
+-- `table::operators::row_of` meets its contract: the arm of an operator has the row that antt looks up, and the last arm is past every line.
 -- Assumes nothing.
-use borrow.Author.Needs.{needs}
-use borrow.Author.Tests.{ne-eqb, ltb-true}
-use native.Mathlib.Omega.{arith}
-use mathlib.Core.Path.{_≡_, refl, sym, _∙_, ap}
-use mathlib.Core.Bool.{Bool, true, false, cond}
-use mathlib.Core.List.{List, [], _∷_}
-use Prim.Native.Nat.{ℕ, _<_, _≤_}
-use lib.Dec.{T, ltb}
-use Rattle.table.specs.Operators.{Entry, operators, rowIn, rowOf, unknown}
-use Rattle.table.proofs.Tabulate.{entry}
+use mathlib.Core.Path.{_≡_, sym, ap}
+use Rattle.table.specs.Operators.{operators, lookup, rowOf, unknown}
+use Rattle.table.proofs.Lookup.{past}
 use Rattle.table.proofs.operators.row_of.Statement.{statement}
 use Rattle.table.proofs.operators.row_of.Tie as tie
 
-abbrev codesBelow : ℕ → List Entry → Bool
-codesBelow n [] = true
-codesBelow n (e ∷ es) = cond (ltb (e .code) n) (codesBelow n es) false
-
-split : (m n : ℕ) (b : Bool) → T (cond (ltb m n) b false) → (m < n) × T b
-split m n b t = go (ltb m n) refl t
-  where
-    go : (a : Bool) → ltb m n ≡ a → T (cond a b false) → (m < n) × T b
-    go true p u = (ltb-true m n p, u)
-    go false p u = absurd u
-
--- an operator past every code is unknown
-past : (n : ℕ) (es : List Entry) (op : ℕ) → T (codesBelow n es) → n ≤ op → rowIn es op ≡ unknown
-unfolding rowIn
-past n [] op t h = refl
-past n (e ∷ es) op t h =
-    let l : (e .code < n) × T (codesBelow n es) = split (e .code) n (codesBelow n es) t in
-    simp (ne-eqb op (e .code) (omega arith)) (past n es op (l .1) h)
-
 pub row-of-spec : {M : Type 1} → statement M
-unfolding operators rowIn rowOf
-row-of-spec = tie.close
+unfolding operators lookup rowOf
+row-of-spec =
+    tie.close
     (tie.spec
-    (λ c κs. search needs)
-    (λ c. search needs)
-    (λ c. search needs)
-    (λ c. entry rowOf 41 (c .before .before .wide .result) unknown (c .before .if1 .taken) ∙ ap rowOf (c .before .before .wide .ensures))
-    (λ c. sym (past 41 operators (c .before .before .args .op) tt (omega arith))))
+    (λ c. ap rowOf (sym (c .match .keys1)))
+    (λ c. ap rowOf (sym (c .match .keys2)))
+    (λ c. ap rowOf (sym (c .match .keys3)))
+    (λ c. ap rowOf (sym (c .match .keys4)))
+    (λ c. ap rowOf (sym (c .match .keys5)))
+    (λ c. ap rowOf (sym (c .match .keys6)))
+    (λ c. ap rowOf (sym (c .match .keys7)))
+    (λ c. ap rowOf (sym (c .match .keys8)))
+    (λ c. ap rowOf (sym (c .match .keys9)))
+    (λ c. ap rowOf (sym (c .match .keys10)))
+    (λ c. ap rowOf (sym (c .match .keys11)))
+    (λ c. ap rowOf (sym (c .match .keys12)))
+    (λ c. ap rowOf (sym (c .match .keys13)))
+    (λ c. ap rowOf (sym (c .match .keys14)))
+    (λ c. ap rowOf (sym (c .match .keys15)))
+    (λ c. ap rowOf (sym (c .match .keys16)))
+    (λ c. ap rowOf (sym (c .match .keys17)))
+    (λ c. ap rowOf (sym (c .match .keys18)))
+    (λ c. ap rowOf (sym (c .match .keys19)))
+    (λ c. ap rowOf (sym (c .match .keys20)))
+    (λ c. ap rowOf (sym (c .match .keys21)))
+    (λ c. sym (past (λ e. e .row) unknown (Unit {0}) operators _ (c .match .rest) .0)))
