@@ -4,7 +4,7 @@ use mathlib.Core.Bool.{Bool, true, false, not, _&&_, _||_}
 use mathlib.Core.Path.{_≡_, refl, sym, subst, _∙_, ap}
 use mathlib.Core.Logic.{_⊎_, inl, inr, ⊎-elim, _↔_}
 use mathlib.Core.List.{List, [], _∷_}
-use Prim.Native.Nat.{ℕ, zero, suc, _+_, _-_, _≤_, _<_, min}
+use Prim.Native.Nat.{ℕ, zero, suc, _-_, _≤_, _<_, min}
 use native.Mathlib.Omega.{arith}
 use native.Mathlib.Nat.{le-of-suc-le-suc}
 use lib.Dec.{T, T-not, leb, eqb}
@@ -20,7 +20,7 @@ use Rattle.meaning.proofs.Closed.{bar-word}
 use Rattle.meaning.proofs.Shift.{sat-shift}
 use Rattle.tests.specs.Tests.{Tells, some, every}
 use Rattle.tests.proofs.Telling.{is-map, is-test, is-true, is-false, is-and, is-or, is-not, is-imp, decide, is-eq, is-le, is-some, is-every}
-use Rattle.meaning.proofs.Eval.{matchB, is-match, topB, is-top, Past}
+use Rattle.meaning.proofs.Eval.{matchB, is-match, topB, is-top}
 
 -- how many positions there are, the tail counted as one
 abbrev pub span : Tail → ℕ → ℕ

@@ -1,16 +1,16 @@
 -- The three answers of a record: strong implies neutral implies weak, a closed verdict never reopens, a level is one number.
 -- Assumes nothing.
-use mathlib.Core.Bool.{Bool, true, false, not}
-use mathlib.Core.Path.{_≡_, refl, fun-ext, subst}
+use mathlib.Core.Bool.{Bool}
+use mathlib.Core.Path.{_≡_, refl, fun-ext}
 use mathlib.Core.List.{List, [], _∷_, _++_, append-nil}
-use Prim.Native.Nat.{ℕ, zero, suc, _-_, _≤_, _<_, zero-le, suc-le-suc}
+use Prim.Native.Nat.{ℕ, zero, suc}
 use native.Mathlib.Omega.{arith}
 use native.Mathlib.Nat.{le-of-suc-le-suc}
-use Rattle.meaning.specs.Syntax.{Prop, neg, Clock, free}
-use Rattle.meaning.specs.Words.{Cell, real, Word, bar, word, Tail, none, tops, bots, after}
+use Rattle.meaning.specs.Syntax.{Prop, free}
+use Rattle.meaning.specs.Words.{bar, word, Tail, none, tops, bots}
 use Rattle.meaning.proofs.Cells.{other}
-use Rattle.meaning.specs.Meaning.{Sat, Accepted, Neutral, Weakly, Strongly, Level, level3, level2, level1, level0}
-use Rattle.meaning.proofs.Order.{Below, from-bot, to-top, same, Keeps, from-real, stay, Proper}
+use Rattle.meaning.specs.Meaning.{Accepted, Neutral, Weakly, Strongly, Level, level3, level2, level1, level0}
+use Rattle.meaning.proofs.Order.{from-bot, to-top, same, from-real, stay, Proper}
 use Rattle.meaning.proofs.Mono.{_⊑_, mono}
 
 module _ {S : Type 0} where

@@ -1,20 +1,20 @@
 -- Matching as tests that antt computes. Assumes nothing.
-use mathlib.Core.Bool.{Bool, true, false, not, _&&_, _||_}
+use mathlib.Core.Bool.{Bool, false, _&&_, _||_}
 use mathlib.Core.Path.{_≡_, refl, sym, subst}
 use mathlib.Core.Logic.{_⊎_, inl, inr, ⊎-elim}
 use Prim.Native.Nat.{ℕ, zero, suc, _+_, _-_, _≤_, _<_}
 use native.Mathlib.Omega.{arith}
 use native.Mathlib.Nat.{eq-or-lt-of-le}
-use lib.Dec.{T, leb, ltb, eqb}
+use lib.Dec.{T, ltb, eqb}
 use Rattle.meaning.specs.Syntax.{Bexp, nott, Seq, one, cat, fuse, alt, empty, plus, clocked, Clock, free, on}
 use Rattle.meaning.specs.Words.{Cell, real, top, bot, end, Word}
 use Rattle.meaning.proofs.Cells.{isTop}
 use Rattle.meaning.specs.Meaning.{Plus, last, more, meets, Match}
-use Rattle.meaning.proofs.Order.{Below, same, top-above, side, plus-le, match-le, carry}
+use Rattle.meaning.proofs.Order.{top-above, side, match-le, carry}
 use Rattle.meaning.proofs.Tails.{AllTop}
 use Rattle.meaning.proofs.Unroll.{plus-first}
 use Rattle.tests.specs.Tests.{Tells, some, every}
-use Rattle.tests.proofs.Telling.{is-map, is-test, is-true, is-false, is-and, is-or, is-eq, is-le, is-some, is-every}
+use Rattle.tests.proofs.Telling.{is-map, is-test, is-false, is-and, is-or, is-eq, is-le, is-some, is-every}
 
 -- one or more stretches in a row, n steps at most
 unfoldable pub plusB : (ℕ → ℕ → Bool) → ℕ → ℕ → ℕ → Bool

@@ -1,13 +1,11 @@
 -- The level and acceptance as computed tests. Assumes nothing.
-use mathlib.Core.Bool.{Bool, true, false, not, _&&_, _||_}
-use mathlib.Core.List.{List, [], _∷_}
-use Prim.Native.Nat.{ℕ, zero, suc, _≤_, _<_, zero-le}
-use native.Mathlib.Omega.{arith}
-use lib.Dec.{T}
+use mathlib.Core.Bool.{Bool, true, false, _&&_}
+use mathlib.Core.List.{List}
+use Prim.Native.Nat.{ℕ, zero-le}
 use Rattle.meaning.specs.Syntax.{Prop, strong, weak, neg, either, both, implies, next, until, under, Seq, Clock, free, on}
-use Rattle.meaning.specs.Words.{top, word, Tail, none, tops, bots}
+use Rattle.meaning.specs.Words.{top, word, none, tops, bots}
 use Rattle.meaning.specs.Levels.{levelOf}
-use Rattle.meaning.specs.Meaning.{Match, meets, value, counts, ticks, Topped, Accepted, Neutral, Weakly, Strongly, Level, level3, level2, level1, level0}
+use Rattle.meaning.specs.Meaning.{meets, value, counts, ticks, Topped, Accepted, Neutral, Weakly, Strongly, Level, level3, level2, level1, level0}
 use Rattle.tests.specs.Tests.{Tells, some, every}
 use Rattle.tests.proofs.Telling.{is-and}
 use Rattle.meaning.proofs.Eval.{topB, matchB, plusB, is-top}

@@ -1,19 +1,16 @@
 -- Satisfaction of an accepted property goes up with the letters: ⊥ below samples and the end, these below ⊤.
 -- It gives "strong implies neutral implies weak" and "a closed verdict never reopens". Assumes nothing.
-use mathlib.Core.Bool.{Bool, true, false, not, cond}
-use mathlib.Core.Path.{_≡_, refl, sym, subst}
+use mathlib.Core.Bool.{Bool, not}
 use mathlib.Core.Logic.{_⊎_, inl, inr, ⊎-elim}
-use mathlib.Core.List.{List, [], _∷_, _++_}
-use Prim.Native.Nat.{ℕ, zero, suc, _+_, _-_, _≤_, _<_, zero-le, suc-le-suc}
+use Prim.Native.Nat.{ℕ, zero, suc, _≤_, _<_, zero-le}
 use native.Mathlib.Omega.{arith}
-use native.Mathlib.Nat.{le-of-suc-le-suc}
 use lib.Dec.{T, T-not, ltb}
-use Rattle.meaning.specs.Syntax.{Bexp, nott, Seq, Prop, strong, weak, neg, either, both, implies, next, until, under, Clock, free, on}
-use Rattle.meaning.specs.Words.{Cell, real, top, bot, end, Word, inside, isBot, flip, bar, cut, word, NoBot, Tail, none, tops, bots, after}
-use Rattle.meaning.proofs.Cells.{alive, isTop}
-use Rattle.meaning.specs.Meaning.{value, meets, Match, counts, ticks, Second, Strong, Sat, Topped, Accepted}
+use Rattle.meaning.specs.Syntax.{Bexp, Seq, Prop, strong, weak, neg, either, both, implies, next, until, under, Clock, free, on}
+use Rattle.meaning.specs.Words.{Cell, real, top, bot, end, Word, inside, isBot, bar, cut, NoBot}
+use Rattle.meaning.proofs.Cells.{isTop}
+use Rattle.meaning.specs.Meaning.{counts, ticks, Second, Strong, Sat, Topped, Accepted}
 use Rattle.meaning.proofs.Order.{Below, from-bot, to-top, same, below-flip, top-above, Keeps, from-real, stay, Proper, proper-bar, side, below-meets, match-mono}
-use Rattle.meaning.proofs.Tails.{AllTop, AllBot, cut-in, cut-out, cut-top, top-not-bot, top-ticks, bot-ticks, topped-strong, ends}
+use Rattle.meaning.proofs.Tails.{cut-in, cut-out, cut-top, top-ticks, bot-ticks, topped-strong, ends}
 
 abbrev pub _⊑_ : {S : Type 0} → Word S → Word S → Type 0
 w ⊑ v = (p : ℕ) → Below (w p) (v p)

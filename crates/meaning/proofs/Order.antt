@@ -1,15 +1,15 @@
 -- The order ⊥ ≤ anything ≤ ⊤ on what stands at a position, and what it does to matches. Assumes nothing.
-use mathlib.Core.Bool.{Bool, true, false, not, _&&_, _||_}
-use mathlib.Core.Path.{_≡_, refl, subst}
+use mathlib.Core.Bool.{Bool}
+use mathlib.Core.Path.{_≡_, subst}
 use mathlib.Core.Logic.{_⊎_, inl, inr, ⊎-elim}
-use Prim.Native.Nat.{ℕ, zero, suc, _+_, _-_, _≤_, _<_}
+use Prim.Native.Nat.{ℕ, suc, _+_, _-_, _≤_, _<_}
 use native.Mathlib.Omega.{arith}
 use native.Mathlib.Decide.{decLt}
 use lib.Dec.{T}
 use Rattle.meaning.specs.Syntax.{Bexp, nott, Seq, one, cat, fuse, alt, empty, plus, clocked, Clock, free, on}
-use Rattle.meaning.specs.Words.{Cell, real, top, bot, end, Word, inside, isBot, flip, bar}
+use Rattle.meaning.specs.Words.{Cell, real, top, bot, end, Word, flip, bar}
 use Rattle.meaning.proofs.Cells.{alive, isTop}
-use Rattle.meaning.specs.Meaning.{Plus, last, more, value, meets, Match}
+use Rattle.meaning.specs.Meaning.{Plus, last, more, meets, Match}
 
 pub data Below {S : Type 0} : Cell S → Cell S → Type 0 where
   from-bot : {y : Cell S} → Below bot y

@@ -1,24 +1,24 @@
 -- Rewriting clocks away changes no match of a word and no answer of a record. Assumes nothing.
-use mathlib.Core.Bool.{Bool, true, false, not, _&&_, _||_}
+use mathlib.Core.Bool.{Bool, not}
 use mathlib.Core.Path.{_≡_, refl, sym, subst, fun-ext}
 use mathlib.Core.Logic.{_⊎_, inl, inr, ⊎-elim, _↔_}
 use mathlib.Core.List.{List, [], _∷_}
-use Prim.Native.Nat.{ℕ, zero, suc, _+_, _-_, _≤_, _<_, min}
+use Prim.Native.Nat.{ℕ, zero, suc, _+_, _-_, _≤_, _<_}
 use native.Mathlib.Omega.{arith}
 use native.Mathlib.Nat.{eq-or-lt-of-le}
 use lib.Dec.{T, T-not}
 use lib.ListN.{length}
 use Rattle.meaning.specs.Syntax.{Bexp, nott, andd, Seq, one, cat, fuse, alt, empty, plus, clocked, Prop, strong, weak, neg, either, both, implies, next, until, under, Clock, free, on}
-use Rattle.meaning.specs.Words.{Cell, real, top, bot, end, Word, inside, isBot, flip, bar, cut, NoBot, word, Tail, none, tops, bots, after}
+use Rattle.meaning.specs.Words.{Cell, real, top, bot, end, Word, inside, isBot, flip, bar, cut, NoBot, word, Tail, none, tops, bots}
 use Rattle.meaning.proofs.Cells.{isTop, other}
 use Rattle.meaning.specs.Meaning.{Plus, last, more, value, meets, Match, counts, ticks, Second, Strong, Sat, Topped, Accepted, Level, level3, level2, level1, level0}
 use Rattle.meaning.specs.Rewriting.{tickS, rewS, now, seek, rewP}
-use Rattle.meaning.proofs.Order.{side, match-le}
+use Rattle.meaning.proofs.Order.{side}
 use Rattle.meaning.proofs.Tails.{bot-inside}
 use Rattle.meaning.proofs.Closed.{bar-word}
 use Rattle.tests.specs.Tests.{Tells}
 use Rattle.tests.proofs.Telling.{is-test, is-true, is-false, is-and, is-not, test}
-use Rattle.meaning.proofs.Answers.{word-in, word-out, word-inside, word-not-bot, out-ticks, botted, decided, no-bot}
+use Rattle.meaning.proofs.Answers.{word-out, word-inside, word-not-bot, out-ticks, botted, decided, no-bot}
 
 plus-map : {M N : ℕ → ℕ → Type 0} → ((a b : ℕ) → M a b → N a b) → {i j : ℕ} → Plus M i j → Plus N i j
 plus-map f (last {i = i} {j = j} a) = last (f i j a)

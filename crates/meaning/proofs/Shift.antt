@@ -1,13 +1,13 @@
 -- Satisfaction looks at nothing but the letters from its position on: `Sat w i` is satisfaction of suffix i from its start, and
 -- positions in a constant tail count as one. Assumes nothing.
-use mathlib.Core.Bool.{Bool, true, false, not, cond}
-use mathlib.Core.Path.{_≡_, refl, sym, ap, subst}
-use mathlib.Core.Logic.{_⊎_, inl, inr, ⊎-elim, _↔_}
+use mathlib.Core.Bool.{Bool, not}
+use mathlib.Core.Path.{_≡_, sym, ap, subst}
+use mathlib.Core.Logic.{_⊎_, inl, inr, _↔_}
 use Prim.Native.Nat.{ℕ, zero, suc, _+_, _-_, _≤_, _<_}
 use native.Mathlib.Omega.{arith}
 use lib.Dec.{T}
 use Rattle.meaning.specs.Syntax.{Bexp, Seq, Prop, strong, weak, neg, either, both, implies, next, until, under, Clock, free, on}
-use Rattle.meaning.specs.Words.{Cell, top, Word, inside, isBot, flip, bar, cut, suffix, NoBot}
+use Rattle.meaning.specs.Words.{Word, inside, isBot, flip, bar, cut, suffix, NoBot}
 use Rattle.meaning.specs.Meaning.{Match, counts, ticks, Second, Strong, Sat}
 use Rattle.meaning.proofs.Order.{Below, same, carry, side}
 use Rattle.meaning.proofs.Tails.{cut-in, cut-out}

@@ -1,15 +1,15 @@
 -- ⊤ for ever satisfies every accepted property, ⊥ for ever none. Assumes nothing.
 use mathlib.Core.Bool.{Bool, true, false, not, cond}
 use mathlib.Core.Path.{_≡_, refl, subst}
-use mathlib.Core.Logic.{_⊎_, inl, inr, ⊎-elim}
-use Prim.Native.Nat.{ℕ, zero, suc, _+_, _-_, _≤_, _<_}
+use mathlib.Core.Logic.{inl, inr, ⊎-elim}
+use Prim.Native.Nat.{ℕ, suc, _+_, _-_, _≤_, _<_}
 use native.Mathlib.Omega.{arith}
 use lib.Dec.{T, T-not, ltb, lt→ltb, ltb→lt}
-use Rattle.meaning.specs.Syntax.{Bexp, nott, Seq, Prop, strong, weak, neg, either, both, implies, next, until, under, Clock, free, on}
+use Rattle.meaning.specs.Syntax.{Bexp, Seq, Prop, strong, weak, neg, either, both, implies, next, until, under, Clock, free, on}
 use Rattle.meaning.specs.Words.{Cell, real, top, bot, end, Word, inside, isBot, flip, bar, cut, NoBot}
 use Rattle.meaning.proofs.Cells.{alive, isTop}
-use Rattle.meaning.specs.Meaning.{value, meets, Match, counts, ticks, Second, Strong, Sat, Topped, Accepted}
-use Rattle.meaning.proofs.Order.{Below, top-above, carry, match-alive}
+use Rattle.meaning.specs.Meaning.{meets, Match, counts, ticks, Second, Strong, Sat, Topped, Accepted}
+use Rattle.meaning.proofs.Order.{top-above, carry, match-alive}
 
 abbrev pub AllTop : {S : Type 0} → Word S → ℕ → Type 0
 AllTop w i = (p : ℕ) → i ≤ p → T (isTop (w p))

@@ -1,11 +1,11 @@
 -- One step at a time: the laws by which a program that goes from the last position to the first meets the definitions. Assumes nothing.
-use mathlib.Core.Bool.{Bool, true, false, not}
-use mathlib.Core.Path.{_≡_, refl, sym, subst}
+use mathlib.Core.Bool.{Bool}
+use mathlib.Core.Path.{_≡_, sym, subst}
 use mathlib.Core.Logic.{_⊎_, inl, inr, ⊎-elim, _↔_}
-use Prim.Native.Nat.{ℕ, zero, suc, _≤_, _<_}
+use Prim.Native.Nat.{ℕ, suc, _≤_, _<_}
 use native.Mathlib.Omega.{arith}
 use native.Mathlib.Nat.{eq-or-lt-of-le}
-use lib.Dec.{T, T-not}
+use lib.Dec.{T}
 use Rattle.meaning.specs.Syntax.{Prop, until, Seq, plus, Clock}
 use Rattle.meaning.specs.Words.{Word, inside, flip}
 use Rattle.meaning.specs.Meaning.{Plus, last, more, Match, counts, Sat}

@@ -1,10 +1,8 @@
 -- A set of places as a number: which places it has, and the words that the contracts are written in. Assumes nothing.
 use mathlib.Core.Path.{_≡_}
-use mathlib.Core.Bool.{Bool, true, false, _||_, _&&_, cond}
-use mathlib.Core.List.{List}
+use mathlib.Core.Bool.{Bool, true, false, _||_, cond}
 use Prim.Native.Nat.{ℕ, zero, suc, _+_, _*_, _/_, _%_, _^_, _≤_, _<_}
 use lib.Dec.{eqb}
-use lib.ListN.{getD}
 
 -- x has the place k: digit k of x, counted from the lowest, is 1
 unfoldable pub has : ℕ → ℕ → Bool

@@ -1,8 +1,8 @@
 // A set of positions, the places 0 to 63, as one 64-bit number: place k is in the set where bit k is set.
 // A method takes its sets by value and hands a set back. Each contract says of every place whether the result has it.
 ghost use mathlib.Core.Path.{_≡_};
-ghost use mathlib.Core.Bool.{Bool, true, false, not, _||_, _&&_};
-ghost use Prim.Native.Nat.{ℕ, suc, _+_, _-_, _≤_, _<_};
+ghost use mathlib.Core.Bool.{false, not, _||_, _&&_};
+ghost use Prim.Native.Nat.{ℕ, suc, _-_, _≤_, _<_};
 ghost use lib.Dec.{eqb, leb, ltb};
 ghost use Rattle.positions.specs.Member.{has, Is, some, Lowest};
 

@@ -8,11 +8,11 @@ use lib.Dec.{ltb, eqb}
 use lib.ListN.{length}
 use Rattle.refusal.specs.declared.Verdict.{Verdict}
 use Rattle.refusal.specs.First.{Answers}
-use Rattle.refusal.specs.Cases.{Case, at0, firstCase}
-use Rattle.refusal.specs.Heading.{count, heading, headingCases}
+use Rattle.refusal.specs.Computed.{Case, at0, firstCase, headingCases}
+use Rattle.refusal.specs.Heading.{count, headingRefusals}
 use Rattle.refusal.proofs.Deciding.{Decides, answers, decided-when, decides-append}
-use Rattle.tests.proofs.Telling.{is-not, is-eq, is-lt}
 use Rattle.refusal.proofs.Headings.{decides-heading}
+use Rattle.tests.proofs.Telling.{is-not, is-eq, is-lt}
 use Rattle.record.specs.declared.Reading.{Reading}
 use Rattle.record.specs.Record.{refusals, Reads}
 
@@ -27,7 +27,7 @@ cases s words = headingCases 0x57 s ++ laterCases s words
 pub decides : (s : List ℕ) (words : ℕ) → Decides (cases s words) (refusals s words)
 unfolding refusals
 decides s words =
-    decides-append (headingCases 0x57 s) (laterCases s words) (heading 0x57 s) _ (decides-heading 0x57 s)
+    decides-append (headingCases 0x57 s) (laterCases s words) (headingRefusals 0x57 s) _ (decides-heading 0x57 s)
     (λ _. (
       decided-when 10 (is-lt 63 (count s)),
       λ _. (

@@ -1,7 +1,7 @@
 -- A refusal of reading a record as the code answers it.
 -- Assumes nothing.
 use Prim.Native.Nat.{ℕ}
-use Rattle.refusal.specs.Cases.{refused}
+use Rattle.refusal.specs.Computed.{refused}
 use Rattle.record.specs.declared.Reading.{Reading}
 
 -- its number and node, with count 0

@@ -1,9 +1,9 @@
 -- What is computed in Cases.antt is what First.antt says, and nothing else is: from tests that decide the refusals, one by one.
 -- Assumes nothing.
 use borrow.Author.Tests.{ltb-true, ltb-false, lt-ltb}
-use mathlib.Core.Path.{_≡_, refl, _∙_, sym, ap, subst}
+use mathlib.Core.Path.{_≡_, refl, _∙_, sym}
 use mathlib.Core.Logic.{_⊎_, inl, inr}
-use mathlib.Core.Bool.{Bool, true, false, not, cond, _&&_, true≢false, false≢true}
+use mathlib.Core.Bool.{Bool, true, false, cond, _&&_, true≢false, false≢true}
 use mathlib.Core.List.{List, [], _∷_, _++_}
 use Prim.Native.Nat.{ℕ, zero, suc, _+_, _-_, _≤_, _<_}
 use native.Mathlib.Nat.{sub-zero, zero-add, add-zero, not-suc-le-zero, le-of-suc-le-suc, suc-add, add-suc}
@@ -13,7 +13,7 @@ use Rattle.tests.specs.Tests.{Tells}
 use Rattle.tests.proofs.Telling.{passes, passed}
 use Rattle.refusal.specs.declared.Verdict.{Verdict}
 use Rattle.refusal.specs.First.{Refusal, Lowest, when, atLowest, Answers}
-use Rattle.refusal.specs.Cases.{firstOf, first, Case, at0, atFirst, firstCase, refused, accepted}
+use Rattle.refusal.specs.Computed.{firstOf, first, Case, at0, atFirst, firstCase, refused, accepted}
 
 -- the test passes exactly if the refusal is given, and the answer is its number and its node
 pub record Decided (c : Case) (r : Refusal) : Type 0 where

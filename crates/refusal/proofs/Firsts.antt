@@ -1,12 +1,12 @@
 -- Laws of `first`, in the steps of a loop that looks for it. The loop keeps that what is looked for from 0 on is what is looked for from k
 -- on; t is what the code has of the test at k.
 -- Assumes nothing.
-use mathlib.Core.Path.{_≡_, refl, _∙_, sym, ap}
+use mathlib.Core.Path.{_≡_, _∙_, sym}
 use mathlib.Core.Bool.{Bool, true, false}
 use Prim.Native.Nat.{ℕ, suc, _+_, _-_, _<_, _≤_}
 use native.Mathlib.Omega.{arith}
 use native.Mathlib.Numerals.{add-one}
-use Rattle.refusal.specs.Cases.{firstOf, first}
+use Rattle.refusal.specs.Computed.{firstOf, first}
 
 module _ (p : ℕ → Bool) (k n : ℕ) where
   one-less : k < n → n - k ≡ suc (n - (k + 1))

@@ -1,9 +1,9 @@
 -- The tests of a file's first six bytes decide refusals 1, 2 and 3.
 -- Assumes nothing.
 use borrow.Author.Tests.{ltb-false}
-use mathlib.Core.Path.{_≡_, refl, _∙_, sym, ap}
+use mathlib.Core.Path.{_≡_, refl, _∙_, sym, ap, subst}
 use mathlib.Core.List.{List, [], _∷_, _++_}
-use Prim.Native.Nat.{ℕ, zero, suc, _+_, _*_, _≤_, _<_}
+use Prim.Native.Nat.{ℕ, _+_, _*_, _≤_, _<_}
 use native.Mathlib.Nat.{lt-of-not-le, le-of-suc-le-suc}
 use native.Mathlib.Omega.{arith}
 use lib.Dec.{T}
@@ -12,9 +12,10 @@ use lib.Seq.{getD-take}
 use Rattle.tests.specs.Tests.{Tells}
 use Rattle.tests.proofs.Telling.{is-map, is-then, is-not, is-eq, is-lt}
 use Rattle.refusal.specs.declared.Verdict.{Verdict}
-use Rattle.refusal.specs.Cases.{Case, firstCase}
-use Rattle.refusal.specs.Heading.{heading, headingCases, isMarked, isVersionOne, mark, version}
-use Rattle.refusal.proofs.Deciding.{Decides, decided-when, refuses, none, after, before}
+use Rattle.refusal.specs.Computed.{Case, firstCase, headingCases, isMarked, isVersionOne}
+use Rattle.refusal.specs.First.{Answers}
+use Rattle.refusal.specs.Heading.{headingRefusals, mark, version}
+use Rattle.refusal.proofs.Deciding.{Decides, answers, only, decided-when, refuses, none, after, before}
 
 marked-tells : (letter : ℕ) (s : List ℕ) → 6 ≤ length s → Tells (isMarked letter s) (take 3 s ≡ mark letter)
 unfolding isMarked
@@ -47,7 +48,7 @@ version-tells s l =
     read (a ∷ b ∷ c ∷ d ∷ []) l = absurd (omega arith)
     read (a ∷ b ∷ c ∷ d ∷ e ∷ s) l = omega arith
 
-pub decides-heading : (letter : ℕ) (s : List ℕ) → Decides (headingCases letter s) (heading letter s)
+pub decides-heading : (letter : ℕ) (s : List ℕ) → Decides (headingCases letter s) (headingRefusals letter s)
 unfolding headingCases
 decides-heading letter s = (
   decided-when 1 (is-lt (length s) 6),
@@ -61,12 +62,18 @@ unfolding headingCases
 heading-refuses letter s = tt
 
 -- what follows the tests of the heading, from what they answer
-module _ (letter : ℕ) (s : List ℕ) (v : Verdict) (ev : v ≡ firstCase (headingCases letter s)) where
+pub heading-answers : (letter : ℕ) (s : List ℕ) (v : Verdict) → v ≡ firstCase (headingCases letter s) → Answers (headingRefusals letter s) v
+heading-answers letter s v e = subst (Answers (headingRefusals letter s)) (sym e) (answers (headingCases letter s) (headingRefusals letter s) (decides-heading letter s))
+
+module _ (letter : ℕ) (s : List ℕ) (v : Verdict) (a : Answers (headingRefusals letter s) v) where
+  pub heading-only : v ≡ firstCase (headingCases letter s)
+  heading-only = only (headingCases letter s) (headingRefusals letter s) (decides-heading letter s) v a
+
   heading-number : v .number ≡ firstCase (headingCases letter s) .number
-  heading-number = ap (λ (u : Verdict). u .number) ev
+  heading-number = ap (λ (u : Verdict). u .number) heading-only
 
   pub heading-stops : ¬ (v .number ≡ 0) → (ds : List Case) → v ≡ firstCase (headingCases letter s ++ ds)
-  heading-stops h ds = ev ∙ sym (before (headingCases letter s) ds (λ z. h (heading-number ∙ z)))
+  heading-stops h ds = heading-only ∙ sym (before (headingCases letter s) ds (λ z. h (heading-number ∙ z)))
 
   module _ (h : v .number ≡ 0) where
     pub heading-passes : (ds : List Case) → firstCase (headingCases letter s ++ ds) ≡ firstCase ds

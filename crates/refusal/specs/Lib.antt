@@ -1,3 +1,5 @@
+-- What a refusal is, and those of the first six bytes.
 pub mod First
 pub mod Heading
-pub mod Cases
+-- What the code is held to on the way there.
+pub mod Computed

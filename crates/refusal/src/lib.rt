@@ -3,8 +3,9 @@
 ghost use mathlib.Core.Path.{_≡_};
 ghost use Prim.Native.Nat.{_≤_};
 ghost use lib.ListN.{length};
-ghost use Rattle.refusal.specs.Cases.{firstCase};
-ghost use Rattle.refusal.specs.Heading.{headingCases, isMarked, isVersionOne};
+ghost use Rattle.refusal.specs.First.{Answers};
+ghost use Rattle.refusal.specs.Heading.{headingRefusals};
+ghost use Rattle.refusal.specs.Computed.{isMarked, isVersionOne};
 
 // The number of the refusal and its node; an acceptance has number and node 0.
 pub struct Verdict {
@@ -39,7 +40,7 @@ fn version_one(b: &[u8]) -> bool
 
 // Refusals 1 to 3 of a file whose mark ends with the letter, the first that applies.
 pub fn heading(b: &[u8], letter: u8) -> Verdict
-    ensures { λ r. ⌜ r ≡ firstCase (headingCases letter (now (b .entry))) ⌝ }
+    ensures { λ r. ⌜ Answers (headingRefusals letter (now (b .entry))) r ⌝ }
 {
     if b.len() < 6 {
         return Verdict { number: 1, node: 0 };

@@ -4,17 +4,17 @@ use native.Mathlib.Nat.{eq-or-lt-of-le, le-of-suc-le-suc, lt-of-not-le}
 use borrow.Author.Tests.{le-ltb, ne-eqb, eqb-true, not-false}
 use mathlib.Core.Path.{_≡_, refl, _∙_, sym, ap, subst}
 use mathlib.Core.Logic.{_⊎_, inl, inr, ⊎-elim}
-use mathlib.Core.Bool.{Bool, true, false, not}
-use mathlib.Core.List.{List, [], _∷_}
-use Prim.Native.Nat.{ℕ, suc, _+_, _*_, _-_, _<_, _≤_}
-use lib.Dec.{T, eqb, ltb}
+use mathlib.Core.Bool.{false}
+use mathlib.Core.List.{List}
+use Prim.Native.Nat.{ℕ, suc, _+_, _*_, _<_, _≤_}
+use lib.Dec.{eqb}
 use lib.ListN.{length}
 use Rattle.tests.specs.Tests.{Tells}
 use Rattle.tests.proofs.Telling.{is-map, is-or, is-not, is-unless, is-eq, is-lt, passed, failed}
 use Rattle.refusal.specs.declared.Verdict.{Verdict}
-use Rattle.refusal.specs.Cases.{firstCase}
-use Rattle.refusal.specs.Heading.{count, heading, headingCases}
-use Rattle.refusal.proofs.Deciding.{Decides, decided-when, decided-lowest, decides-append, not-applied, none, none-below, refuses, answers, only}
+use Rattle.refusal.specs.Heading.{count, headingRefusals}
+use Rattle.refusal.specs.Computed.{headingCases}
+use Rattle.refusal.proofs.Deciding.{Decides, decided-when, decided-lowest, decides-append, not-applied, none, none-below, answers, only}
 use Rattle.refusal.proofs.Headings.{decides-heading}
 use Rattle.table.specs.declared.nodes.Node.{Node}
 use Rattle.table.specs.Operators.{boolean, sequence, property}
@@ -100,7 +100,7 @@ module _ (s : List ℕ) where
   unfolding laterCases nodeCases refusals
   decides =
       let n = count s in
-      decides-append (headingCases 0x54 s) (laterCases s) (heading 0x54 s) _ (decides-heading 0x54 s)
+      decides-append (headingCases 0x54 s) (laterCases s) (headingRefusals 0x54 s) _ (decides-heading 0x54 s)
       (λ _. (
         decided-when 4 (is-or (is-eq n 0) (is-lt 120 n)),
         λ h4. (

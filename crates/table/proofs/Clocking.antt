@@ -4,7 +4,7 @@ use native.Mathlib.Nat.{eq-or-lt-of-le}
 use mathlib.Core.Path.{_≡_, refl, _∙_, sym, ap, subst}
 use mathlib.Core.Logic.{_⊎_, inl, inr, ⊎-elim}
 use mathlib.Core.List.{List}
-use Prim.Native.Nat.{ℕ, zero, suc, _+_, _-_, _<_, _≤_}
+use Prim.Native.Nat.{ℕ, zero, suc, _+_, _<_, _≤_}
 use Rattle.refusal.specs.Heading.{count}
 use Rattle.meaning.specs.Syntax.{Clock, free, on}
 use Rattle.table.specs.declared.nodes.Node.{Node}
@@ -13,7 +13,7 @@ use Rattle.table.specs.declared.nodes.SequenceOp.the-variants.{Letter, T
 use Rattle.table.specs.declared.nodes.PropertyOp.the-variants.{Strong, Weak, Negated, AnyOf, BothOf, Implies, Next, Until, Ticked}
 use Rattle.table.specs.Operators.{boolean, sequence}
 use Rattle.table.specs.Nodes.{sortAt, nodeAt, usesOf, root, WellFormed}
-use Rattle.table.specs.Trees.{BooleanAt, Ref, freeR, onR, Part, handed, ClockOf, c-root, c-part, ClockAt, c-free, c-on}
+use Rattle.table.specs.Trees.{Ref, freeR, onR, Part, handed, ClockOf, c-root, c-part, ClockAt, c-free, c-on}
 use Rattle.table.proofs.Reading.{uniqueB}
 use Rattle.table.proofs.Shapes.{down}
 use Rattle.table.proofs.Standing.{boolean-in}

@@ -1,13 +1,13 @@
 -- The test of a node decides that it is well formed, and a well-formed node is decoded to the node that has its bytes. Assumes nothing.
 use native.Mathlib.Omega.{arith}
-use mathlib.Core.Path.{_≡_, refl}
+use mathlib.Core.Path.{_≡_}
 use mathlib.Core.Bool.{Bool, true, false, cond}
 use mathlib.Core.List.{List}
-use Prim.Native.Nat.{ℕ, _<_}
-use lib.Dec.{T, eqb, ltb}
+use Prim.Native.Nat.{ℕ}
+use lib.Dec.{eqb, ltb}
 use Rattle.tests.specs.Tests.{Tells}
 use Rattle.tests.proofs.Telling.{is-map, is-then, is-unless, is-eq, is-lt}
-use Rattle.table.specs.Operators.{none, rowOf, nodeOf, bytesOf, Written}
+use Rattle.table.specs.Operators.{none, bytesOf}
 use Rattle.table.specs.Nodes.{rawAt, rowAt, sortAt, nodeAt, Operand, WellFormed}
 use Rattle.table.specs.Computed.{operandFits, nodeFits}
 use Rattle.table.proofs.Coded.{coded}

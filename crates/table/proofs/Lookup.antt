@@ -1,6 +1,6 @@
 -- Looking a line up in the table of operators. Assumes nothing.
 use borrow.Author.Tests.{ne-eqb}
-use mathlib.Core.Path.{_≡_, refl, _∙_, ap}
+use mathlib.Core.Path.{_≡_, refl}
 use mathlib.Core.Bool.{Bool, true, false, cond}
 use mathlib.Core.List.{List, [], _∷_}
 use Prim.Native.Nat.{ℕ}

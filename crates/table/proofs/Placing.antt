@@ -7,7 +7,7 @@ use mathlib.Core.Logic.{_⊎_, inl, inr, ⊎-elim}
 use mathlib.Core.Bool.{Bool, true, false, cond, _&&_, _||_}
 use mathlib.Core.List.{List, [], _∷_}
 use Prim.Native.Nat.{ℕ, zero, suc, _+_, _<_, _≤_}
-use lib.Dec.{T, eqb, ltb, leb, leb→le}
+use lib.Dec.{T, eqb, leb}
 use Rattle.tests.proofs.Telling.{is-and, is-or, is-le, is-test}
 use Rattle.meaning.proofs.Order.{side}
 use Rattle.table.specs.declared.operators.Row.{Row}

@@ -5,22 +5,22 @@ use native.Mathlib.Nat.{not-suc-le-zero, eq-or-lt-of-le, le-of-suc-le-suc}
 use mathlib.Core.Path.{_≡_, refl, _∙_, sym, ap, subst}
 use mathlib.Core.Logic.{⊎-elim}
 use mathlib.Core.Bool.{Bool, true, false, not, _&&_, _||_, or-false, and-false}
-use mathlib.Core.List.{List, [], _∷_, _++_}
-use Prim.Native.Nat.{ℕ, zero, suc, _+_, _<_, _≤_}
+use mathlib.Core.List.{List, [], _∷_}
+use Prim.Native.Nat.{ℕ, zero, suc, _<_}
 use lib.Dec.{T}
-use lib.ListN.{length, getD, length-append, List·getD-append}
+use lib.ListN.{length, length-append, List·getD-append}
 use lib.Seq.{getD-at}
 use Rattle.tests.specs.Tests.{Tells, some, every}
-use Rattle.tests.proofs.Telling.{is-not, failed}
+use Rattle.tests.proofs.Telling.{is-not}
 use Rattle.meaning.specs.Syntax.{Seq, Prop, Clock, free, on}
 use Rattle.meaning.specs.Words.{top}
-use Rattle.meaning.specs.Meaning.{meets, Topped, Accepted}
+use Rattle.meaning.specs.Meaning.{Topped, Accepted}
 use Rattle.meaning.specs.Signal.{signal}
 use Rattle.meaning.proofs.Eval.{matchB, plusB, topB}
 use Rattle.meaning.proofs.Leveling.{toppedB, is-topped}
 use Rattle.table.specs.declared.nodes.Node.{Node}
 use Rattle.table.specs.declared.nodes.Node.the-variants.{Boolean, Sequence, Property}
-use Rattle.table.specs.declared.nodes.SequenceOp.the-variants.{Letter, Then, Fused, Either, Empty, Repeat, Clocked}
+use Rattle.table.specs.declared.nodes.SequenceOp.the-variants.{Then, Fused, Either, Repeat, Clocked}
 use Rattle.table.specs.declared.nodes.PropertyOp.the-variants.{Strong, Weak, Negated, AnyOf, BothOf, Implies, Next, Until, Ticked}
 use Rattle.table.specs.declared.topped.Tops.{Tops}
 use Rattle.table.specs.Operators.{sequence}

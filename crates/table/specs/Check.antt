@@ -6,7 +6,7 @@ use Prim.Native.Nat.{ℕ, _+_, _*_, _<_}
 use lib.ListN.{length}
 use Rattle.refusal.specs.declared.Verdict.{Verdict}
 use Rattle.refusal.specs.First.{Refusal, when, atLowest, Answers}
-use Rattle.refusal.specs.Heading.{heading, count}
+use Rattle.refusal.specs.Heading.{headingRefusals, count}
 use Rattle.meaning.specs.Syntax.{Seq, Clock}
 use Rattle.meaning.specs.Meaning.{Topped}
 use Rattle.meaning.specs.Signal.{signal}
@@ -37,7 +37,7 @@ pub record Hollow (s : List ℕ) (k : ℕ) : Type 0 where
 
 unfoldable pub refusals : List ℕ → List Refusal
 refusals s =
-    heading 0x54 s
+    headingRefusals 0x54 s
     ++ (when 4 ((count s ≡ 0) ⊎ (120 < count s))
     ∷ when 5 (¬ (length s ≡ 6 + 4 * count s))
     ∷ atLowest 6 (count s) (λ k. ¬ WellFormed s k)

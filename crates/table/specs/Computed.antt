@@ -7,8 +7,8 @@ use Prim.Native.Nat.{ℕ, _+_, _*_, _-_, _<_}
 use lib.Dec.{ltb, eqb}
 use lib.ListN.{length, getD}
 use Rattle.refusal.specs.declared.Verdict.{Verdict}
-use Rattle.refusal.specs.Cases.{Case, at0, atFirst, firstCase}
-use Rattle.refusal.specs.Heading.{headingCases, count}
+use Rattle.refusal.specs.Computed.{Case, at0, atFirst, firstCase, headingCases}
+use Rattle.refusal.specs.Heading.{count}
 use Rattle.table.specs.Operators.{none, boolean, sequence}
 use Rattle.table.specs.Nodes.{rawAt, rowAt, sortAt, usesOf}
 use Rattle.table.specs.Flags.{hollow}

@@ -7,7 +7,7 @@ use crate::operators::wide;
 ghost use mathlib.Core.Path.{_≡_};
 ghost use Prim.Native.Nat.{_+_, _*_, _≤_};
 ghost use lib.ListN.{length};
-ghost use Rattle.refusal.specs.Cases.{first};
+ghost use Rattle.refusal.specs.Computed.{first};
 ghost use Rattle.table.specs.Computed.{operandFits, nodeFits, unfit};
 
 // Whether v serves as an operand byte of node k: a plain byte below the limit, or the index of a lower node of the sort.

@@ -15,7 +15,7 @@ use topped::first_hollow;
 ghost use mathlib.Core.Path.{_≡_};
 ghost use Prim.Native.Nat.{_+_, _*_, _≤_};
 ghost use lib.ListN.{length};
-ghost use Rattle.refusal.specs.Cases.{firstCase};
+ghost use Rattle.refusal.specs.Computed.{firstCase};
 ghost use Rattle.table.specs.Check.{Checks};
 ghost use Rattle.table.specs.Computed.{nodeCases};
 

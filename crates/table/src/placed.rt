@@ -6,9 +6,9 @@ use crate::operators::SEQUENCE;
 use crate::operators::row_of;
 use crate::operators::wide;
 ghost use mathlib.Core.Path.{_≡_};
-ghost use Prim.Native.Nat.{ℕ, _+_, _*_, _<_, _≤_};
-ghost use lib.ListN.{length, getD};
-ghost use Rattle.refusal.specs.Cases.{first};
+ghost use Prim.Native.Nat.{_+_, _*_, _<_, _≤_};
+ghost use lib.ListN.{length};
+ghost use Rattle.refusal.specs.Computed.{first};
 ghost use Rattle.table.specs.Nodes.{usesOf};
 ghost use Rattle.table.specs.Computed.{slotOf, astray, Counted};
 

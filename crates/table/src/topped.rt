@@ -8,7 +8,7 @@ use crate::nodes::node_at;
 ghost use mathlib.Core.Path.{_≡_};
 ghost use Prim.Native.Nat.{_+_, _*_, _≤_};
 ghost use lib.ListN.{length, take};
-ghost use Rattle.refusal.specs.Cases.{first};
+ghost use Rattle.refusal.specs.Computed.{first};
 ghost use Rattle.table.specs.Flags.{topsAt, sequenceTops, nodeTops, hollowProperty, hollowNode, hollow};
 
 // What a sequence matches of a word of letters ⊤ alone: no letter; some letters, one or more.

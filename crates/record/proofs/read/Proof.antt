@@ -9,8 +9,9 @@ use mathlib.Core.List.{List, _++_}
 use Prim.Native.Nat.{ℕ, _+_, _*_, _<_, _≤_}
 use lib.ListN.{length, drop}
 use Rattle.refusal.specs.declared.Verdict.{Verdict}
-use Rattle.refusal.specs.Cases.{firstCase, accepted}
-use Rattle.refusal.specs.Heading.{count, headingCases}
+use Rattle.refusal.specs.First.{Answers}
+use Rattle.refusal.specs.Computed.{firstCase, accepted}
+use Rattle.refusal.specs.Heading.{count, headingRefusals}
 use Rattle.refusal.proofs.Deciding.{skip, stop, through}
 use Rattle.refusal.proofs.Headings.{heading-stops, heading-passes, heading-long}
 use Rattle.record.specs.declared.Reading.{Reading}
@@ -20,7 +21,7 @@ use Rattle.record.proofs.Deciding.{laterCases, cases, answered, refuses
 use Rattle.record.proofs.read.Statement.{statement}
 use Rattle.record.proofs.read.Tie as tie
 
-module _ (s d : List ℕ) (v : Verdict) (ev : v ≡ firstCase (headingCases 0x57 s)) where
+module _ (s d : List ℕ) (v : Verdict) (ev : Answers (headingRefusals 0x57 s) v) where
   -- the later cases from the ith on are left
   abbrev Left : ℕ → Type 0
   Left i = firstCase (cases s (length d)) ≡ firstCase (drop i (laterCases s (length d)))

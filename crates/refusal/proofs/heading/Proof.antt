@@ -7,9 +7,11 @@ use mathlib.Core.Bool.{Bool, true, false, not}
 use mathlib.Core.List.{List}
 use Prim.Native.Nat.{ℕ, _<_, _≤_}
 use lib.ListN.{length, drop}
-use Rattle.refusal.specs.Cases.{firstCase, refused, accepted}
-use Rattle.refusal.specs.Heading.{headingCases, isMarked, isVersionOne}
+use Rattle.refusal.specs.First.{Answers}
+use Rattle.refusal.specs.Heading.{headingRefusals}
+use Rattle.refusal.specs.Computed.{firstCase, refused, accepted, headingCases, isMarked, isVersionOne}
 use Rattle.refusal.proofs.Deciding.{skip, stop, through}
+use Rattle.refusal.proofs.Headings.{heading-answers}
 use Rattle.refusal.proofs.heading.Statement.{statement}
 use Rattle.refusal.proofs.heading.Tie as tie
 
@@ -18,31 +20,31 @@ module _ (letter : ℕ) (s : List ℕ) where
   abbrev Left : ℕ → Type 0
   Left i = firstCase (headingCases letter s) ≡ firstCase (drop i (headingCases letter s))
 
-  short : length s < 6 → refused 1 0 ≡ firstCase (headingCases letter s)
+  short : length s < 6 → Answers (headingRefusals letter s) (refused 1 0)
   unfolding headingCases
-  short h = sym (stop _ _ _ (lt-ltb _ _ h))
+  short h = heading-answers letter s _ (sym (stop _ _ _ (lt-ltb _ _ h)))
 
   module _ (l : 6 ≤ length s) (m : Bool) (em : m ≡ isMarked letter s) where
     left1 : Left 1
     unfolding headingCases
     left1 = skip _ _ _ (le-ltb _ _ l)
 
-    mark : not m ≡ true → refused 2 0 ≡ firstCase (headingCases letter s)
+    mark : not m ≡ true → Answers (headingRefusals letter s) (refused 2 0)
     unfolding headingCases
-    mark h = sym (left1 ∙ stop _ _ _ (ap not (sym em) ∙ h))
+    mark h = heading-answers letter s _ (sym (left1 ∙ stop _ _ _ (ap not (sym em) ∙ h)))
 
     module _ (hm : not m ≡ false) (v : Bool) (ev : v ≡ isVersionOne s) where
       left2 : Left 2
       unfolding headingCases
       left2 = left1 ∙ skip _ _ _ (ap not (sym em) ∙ hm)
 
-      version : not v ≡ true → refused 3 0 ≡ firstCase (headingCases letter s)
+      version : not v ≡ true → Answers (headingRefusals letter s) (refused 3 0)
       unfolding headingCases
-      version h = sym (left2 ∙ stop _ _ _ (ap not (sym ev) ∙ h))
+      version h = heading-answers letter s _ (sym (left2 ∙ stop _ _ _ (ap not (sym ev) ∙ h)))
 
-      passes : not v ≡ false → accepted ≡ firstCase (headingCases letter s)
+      passes : not v ≡ false → Answers (headingRefusals letter s) accepted
       unfolding headingCases
-      passes h = sym (left2 ∙ skip _ _ _ (ap not (sym ev) ∙ h) ∙ through)
+      passes h = heading-answers letter s _ (sym (left2 ∙ skip _ _ _ (ap not (sym ev) ∙ h) ∙ through))
 
 pub heading-spec : {M : Type 1} → statement M
 heading-spec =

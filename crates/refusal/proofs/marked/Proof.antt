@@ -7,7 +7,7 @@ use mathlib.Core.List.{List}
 use Prim.Native.Nat.{ℕ}
 use lib.Dec.{eqb}
 use lib.ListN.{getD}
-use Rattle.refusal.specs.Heading.{isMarked}
+use Rattle.refusal.specs.Computed.{isMarked}
 use Rattle.refusal.proofs.marked.Statement.{statement}
 use Rattle.refusal.proofs.marked.Tie as tie
 

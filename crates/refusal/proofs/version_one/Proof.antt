@@ -1,5 +1,5 @@
-use Rattle.refusal.specs.Heading.{isVersionOne}
-use borrow.Author.Tests.{eq-eqb, ne-eqb, lt-ltb, le-ltb}
+use Rattle.refusal.specs.Computed.{isVersionOne}
+use borrow.Author.Tests.{eq-eqb, ne-eqb}
 use borrow.Author.Needs.{needs}
 use Rattle.refusal.proofs.version_one.Statement.{statement}
 use Rattle.refusal.proofs.version_one.Tie as tie

@@ -2,16 +2,15 @@
 -- Assumes nothing.
 use borrow.Author.Needs.{needs}
 use borrow.Author.Tests.{lt-ltb, le-ltb, eq-eqb, ne-eqb}
-use native.Mathlib.Omega.{arith}
-use mathlib.Core.Path.{_≡_, refl, _∙_, sym, ap}
-use mathlib.Core.Bool.{Bool, true, false, not, _||_}
+use mathlib.Core.Path.{_≡_, _∙_, sym, ap}
+use mathlib.Core.Bool.{not}
 use mathlib.Core.List.{List}
 use Prim.Native.Nat.{ℕ, _+_, _*_, _<_, _≤_}
-use lib.Dec.{ltb, eqb}
 use lib.ListN.{length, drop}
 use Rattle.refusal.specs.declared.Verdict.{Verdict}
-use Rattle.refusal.specs.Cases.{firstCase, refused}
-use Rattle.refusal.specs.Heading.{count, headingCases}
+use Rattle.refusal.specs.First.{Answers}
+use Rattle.refusal.specs.Computed.{firstCase, refused}
+use Rattle.refusal.specs.Heading.{count, headingRefusals}
 use Rattle.refusal.proofs.Deciding.{skip, stop}
 use Rattle.refusal.proofs.Headings.{heading-stops, heading-passes, heading-long}
 use Rattle.table.specs.Check.{Checks}
@@ -20,7 +19,7 @@ use Rattle.table.proofs.Checking.{checks}
 use Rattle.table.proofs.check.Statement.{statement}
 use Rattle.table.proofs.check.Tie as tie
 
-module _ (s : List ℕ) (v : Verdict) (ev : v ≡ firstCase (headingCases 0x54 s)) where
+module _ (s : List ℕ) (v : Verdict) (ev : Answers (headingRefusals 0x54 s) v) where
   -- the later cases from the ith on are left
   abbrev Left : ℕ → Type 0
   Left i = firstCase (cases s) ≡ firstCase (drop i (laterCases s))

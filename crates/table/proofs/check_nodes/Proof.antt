@@ -6,7 +6,7 @@ use mathlib.Core.Path.{_≡_, _∙_, sym}
 use mathlib.Core.List.{List}
 use Prim.Native.Nat.{ℕ, _-_, _<_, _≤_}
 use lib.ListN.{drop}
-use Rattle.refusal.specs.Cases.{first, firstCase, refused, accepted}
+use Rattle.refusal.specs.Computed.{first, firstCase, refused, accepted}
 use Rattle.refusal.proofs.Deciding.{skip, stop, through}
 use Rattle.table.specs.Nodes.{sortAt}
 use Rattle.table.specs.Flags.{hollow}

@@ -5,7 +5,7 @@ use mathlib.Core.Path.{_≡_, refl, ap}
 use mathlib.Core.Bool.{Bool, true, false, not}
 use mathlib.Core.List.{List}
 use Prim.Native.Nat.{ℕ, _+_, _≤_, _<_, _-_}
-use Rattle.refusal.specs.Cases.{first}
+use Rattle.refusal.specs.Computed.{first}
 use Rattle.table.specs.Computed.{unfit, nodeFits}
 use Rattle.refusal.proofs.Firsts.{on, found, missed}
 use Rattle.table.proofs.formed.first_unfit.Statement.{statement}

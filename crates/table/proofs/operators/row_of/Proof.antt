@@ -1,6 +1,6 @@
 -- `table::operators::row_of` meets its contract: the arm of an operator has the row that antt looks up, and the last arm is past every line.
 -- Assumes nothing.
-use mathlib.Core.Path.{_≡_, sym, ap}
+use mathlib.Core.Path.{sym, ap}
 use Rattle.table.specs.Operators.{operators, lookup, rowOf, unknown}
 use Rattle.table.proofs.Lookup.{past}
 use Rattle.table.proofs.operators.row_of.Statement.{statement}

@@ -3,7 +3,7 @@
 use native.Mathlib.Omega.{arith}
 use mathlib.Core.Path.{_≡_, refl}
 use Prim.Native.Nat.{_≤_, _-_}
-use Rattle.refusal.specs.Cases.{first}
+use Rattle.refusal.specs.Computed.{first}
 use Rattle.refusal.proofs.Firsts.{on, found, missed}
 use Rattle.table.specs.Computed.{astray, Counted}
 use Rattle.table.proofs.placed.first_astray.Statement.{statement}

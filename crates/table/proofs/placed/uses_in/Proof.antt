@@ -1,9 +1,8 @@
 -- `table::placed::uses_in` meets its contract: the counts are those of the nodes below j, and no count is over two for each.
 -- Assumes nothing.
-use borrow.Author.Needs.{needs}
 use native.Mathlib.Omega.{arith}
-use mathlib.Core.Path.{_≡_, refl, ap, subst}
-use Prim.Native.Nat.{ℕ, _+_, _*_, _-_, _<_, _≤_}
+use mathlib.Core.Path.{_≡_, refl, subst}
+use Prim.Native.Nat.{ℕ, _*_, _-_, _<_, _≤_}
 use lib.ListN.{length, getD, length-set}
 use Rattle.table.specs.Computed.{Counted}
 use Rattle.table.proofs.Counting.{counted-more, bounded-more, bump-le, nothing-counted, nothing-over}

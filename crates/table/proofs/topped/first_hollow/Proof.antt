@@ -13,8 +13,8 @@ use Rattle.table.specs.declared.nodes.Raw.{Raw}
 use Rattle.table.specs.declared.nodes.Node.{Node}
 use Rattle.table.specs.declared.topped.Tops.{Tops}
 use Rattle.table.specs.Operators.{nodeOf}
-use Rattle.refusal.specs.Cases.{first}
-use Rattle.table.specs.Nodes.{rawAt, nodeAt}
+use Rattle.refusal.specs.Computed.{first}
+use Rattle.table.specs.Nodes.{rawAt}
 use Rattle.table.specs.Flags.{nodeTops, topsBelow, hollowNode, hollow}
 use Rattle.refusal.proofs.Firsts.{on, found, missed}
 use Rattle.table.proofs.topped.first_hollow.Statement.{statement}

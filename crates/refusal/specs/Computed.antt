@@ -1,9 +1,10 @@
--- The first refusal that applies, and the lowest node that a test passes, as antt computes them: what the code is held to.
--- `proofs/Deciding.antt` shows that they are those of First.antt. Assumes nothing.
-use mathlib.Core.Bool.{Bool, cond}
+-- The first refusal that applies, the lowest node that a test passes, and the tests of the first six bytes, as antt computes them: what the code is
+-- held to. `proofs/Deciding.antt` and `proofs/Headings.antt` show that they are those of First.antt and Heading.antt. Assumes nothing.
+use mathlib.Core.Bool.{Bool, false, not, cond}
 use mathlib.Core.List.{List, [], _∷_}
 use Prim.Native.Nat.{ℕ, zero, suc, _-_}
-use lib.Dec.{ltb}
+use lib.Dec.{ltb, eqb}
+use lib.ListN.{length, getD}
 use Rattle.refusal.specs.declared.Verdict.{Verdict}
 
 abbrev pub refused : ℕ → ℕ → Verdict
@@ -35,3 +36,15 @@ atFirst i n p = record { applies = ltb (first p 0 n) n; answer = refused i (firs
 unfoldable pub firstCase : List Case → Verdict
 firstCase [] = accepted
 firstCase (c ∷ cs) = cond (c .applies) (c .answer) (firstCase cs)
+
+-- ---- the first six bytes
+
+unfoldable pub isMarked : ℕ → List ℕ → Bool
+isMarked letter s = cond (eqb (getD s 0 0) 83) (cond (eqb (getD s 1 0) 86) (eqb (getD s 2 0) letter) false) false
+
+unfoldable pub isVersionOne : List ℕ → Bool
+isVersionOne s = cond (eqb (getD s 3 0) 1) (eqb (getD s 4 0) 0) false
+
+unfoldable pub headingCases : ℕ → List ℕ → List Case
+headingCases letter s =
+    at0 1 (ltb (length s) 6) ∷ at0 2 (not (isMarked letter s)) ∷ at0 3 (not (isVersionOne s)) ∷ []
