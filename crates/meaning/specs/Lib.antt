@@ -6,4 +6,5 @@ pub mod Meaning
 pub mod Signal
 pub mod Levels
 pub mod Rewriting
+pub mod Parts
 pub mod Examples

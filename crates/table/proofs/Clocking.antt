@@ -14,7 +14,6 @@ use Rattle.table.specs.declared.nodes.PropertyOp.the-variants.{Strong, W
 use Rattle.table.specs.Operators.{boolean, sequence}
 use Rattle.table.specs.Nodes.{sortAt, nodeAt, usesOf, root, WellFormed}
 use Rattle.table.specs.Trees.{Ref, freeR, onR, Part, handed, ClockOf, c-root, c-part, ClockAt, c-free, c-on}
-use Rattle.table.proofs.Reading.{uniqueB}
 use Rattle.table.proofs.Shapes.{down}
 use Rattle.table.proofs.Standing.{boolean-in}
 use Rattle.table.proofs.Placing.{part-below, part-sort, whole-sort, above, one-above}
@@ -74,9 +73,14 @@ module _ (s : List ℕ) (some : 1 ≤ count s) (fit : (k : ℕ) → k < count s 
   came c-root = inl (refl, refl)
   came (c-part {p = p} {ρ = σ} c a) = inr (p, σ, c, a, refl)
 
-  clock-inside : {k : ℕ} {ρ : Ref} → ClockOf s k ρ → k < count s
+  pub clock-inside : {k : ℕ} {ρ : Ref} → ClockOf s k ρ → k < count s
   clock-inside c-root = omega arith
   clock-inside (c-part {p = p} {k = k} c a) = let h = clock-inside c in let l = part-below s k (fit p h) a in omega arith
+
+  -- the number stands for a clock
+  pub clock-known : {k : ℕ} {ρ : Ref} → ClockOf s k ρ → Known ρ
+  clock-known c-root = (free, c-free)
+  clock-known (c-part {p = p} {ρ = ρ} c a) = known-below p (clock-inside c) (nodeAt s p) refl ρ (clock-known c)
 
   pub clock-unique : {k : ℕ} {ρ σ : Ref} → ClockOf s k ρ → ClockOf s k σ → ρ ≡ σ
   clock-unique c-root d =
@@ -92,8 +96,3 @@ module _ (s : List ℕ) (some : 1 ≤ count s) (fit : (k : ℕ) → k < count s 
       let t : ρ ≡ τ = clock-unique c (subst (λ (j : ℕ). ClockOf s j τ) o c′) in
       ap (handed (nodeAt s p)) t ∙ ap (λ (j : ℕ). handed (nodeAt s j) τ) (sym o) ∙ sym e)
       (came d)
-
-  -- a number stands for one clock
-  pub meant-unique : {ρ : Ref} {κ μ : Clock ℕ} → ClockAt (nodeAt s) ρ κ → ClockAt (nodeAt s) ρ μ → κ ≡ μ
-  meant-unique c-free c-free = refl
-  meant-unique (c-on b) (c-on d) = ap on (uniqueB b d)

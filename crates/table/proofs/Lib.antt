@@ -9,5 +9,6 @@ pub mod Standing
 pub mod Topping
 pub mod Placing
 pub mod Clocking
+pub mod Within
 pub mod Checking
 pub mod Counting

@@ -3,13 +3,13 @@
 use mathlib.Core.Path.{_≡_, refl, sym, ap, subst, _∙_}
 use Prim.Native.Nat.{ℕ}
 use lib.Dec.{eqb}
-use Rattle.meaning.specs.Syntax.{Bexp, const, atom, nott, andd, orr, Seq, one, cat, fuse, alt, empty, plus, clocked, Prop, strong, weak, neg, either, both, implies, next, until, under}
+use Rattle.meaning.specs.Syntax.{Bexp, const, atom, nott, andd, orr, Seq, one, cat, fuse, alt, empty, plus, clocked, Prop, strong, weak, neg, either, both, implies, next, until, under, Clock, on}
 use Rattle.table.specs.declared.nodes.Node.{Node}
 use Rattle.table.specs.declared.nodes.Node.the-variants.{Boolean, Sequence, Property}
 use Rattle.table.specs.declared.nodes.BooleanOp.the-variants.{Constant, Signal, Not, And, Or}
 use Rattle.table.specs.declared.nodes.SequenceOp.the-variants.{Letter, Then, Fused, Either, Empty, Repeat, Clocked}
 use Rattle.table.specs.declared.nodes.PropertyOp.the-variants.{Strong, Weak, Negated, AnyOf, BothOf, Implies, Next, Until, Ticked}
-use Rattle.table.specs.Trees.{BooleanAt, b-const, b-sig, b-not, b-and, b-or, SequenceAt, s-one, s-cat, s-fuse, s-alt, s-empty, s-plus, s-clock, PropertyAt, p-strong, p-weak, p-neg, p-either, p-both, p-imp, p-next, p-until, p-clock}
+use Rattle.table.specs.Trees.{BooleanAt, b-const, b-sig, b-not, b-and, b-or, SequenceAt, s-one, s-cat, s-fuse, s-alt, s-empty, s-plus, s-clock, PropertyAt, p-strong, p-weak, p-neg, p-either, p-both, p-imp, p-next, p-until, p-clock, Ref, ClockAt, c-free, c-on}
 
 -- t is the tree of such a node
 module _ (T : ℕ → Node) where
@@ -46,36 +46,36 @@ module _ (T : ℕ → Node) where
   ReadP (Property (Until x y)) t = (P : Prop ℕ) × (Q : Prop ℕ) × (t ≡ until P Q) × PropertyAt T x P × PropertyAt T y Q
   ReadP (Property (Ticked c x)) t = (b : Bexp ℕ) × (P : Prop ℕ) × (t ≡ under b P) × BooleanAt T c b × PropertyAt T x P
 
-on : {A : Type 0} (R : Node → A → Type 0) {w v : Node} {t : A} → w ≡ v → R v t → R w t
-on R {t = t} e h = subst (λ v. R v t) (sym e) h
+along : {A : Type 0} (R : Node → A → Type 0) {w v : Node} {t : A} → w ≡ v → R v t → R w t
+along R {t = t} e h = subst (λ v. R v t) (sym e) h
 
 module _ {T : ℕ → Node} where
   readB : {k : ℕ} {b : Bexp ℕ} → BooleanAt T k b → ReadB T (T k) b
-  readB (b-const e) = on (ReadB T) e refl
-  readB (b-sig e) = on (ReadB T) e refl
-  readB (b-not {b = b} e d) = on (ReadB T) e (b, refl, d)
-  readB (b-and {b = b} {d = d} e x y) = on (ReadB T) e (b, d, refl, x, y)
-  readB (b-or {b = b} {d = d} e x y) = on (ReadB T) e (b, d, refl, x, y)
+  readB (b-const e) = along (ReadB T) e refl
+  readB (b-sig e) = along (ReadB T) e refl
+  readB (b-not {b = b} e d) = along (ReadB T) e (b, refl, d)
+  readB (b-and {b = b} {d = d} e x y) = along (ReadB T) e (b, d, refl, x, y)
+  readB (b-or {b = b} {d = d} e x y) = along (ReadB T) e (b, d, refl, x, y)
 
-  readS : {k : ℕ} {r : Seq ℕ} → SequenceAt T k r → ReadS T (T k) r
-  readS (s-one {b = b} e d) = on (ReadS T) e (b, refl, d)
-  readS (s-cat {r = r} {s = s} e x y) = on (ReadS T) e (r, s, refl, x, y)
-  readS (s-fuse {r = r} {s = s} e x y) = on (ReadS T) e (r, s, refl, x, y)
-  readS (s-alt {r = r} {s = s} e x y) = on (ReadS T) e (r, s, refl, x, y)
-  readS (s-empty {r = r} e x) = on (ReadS T) e (r, refl, x)
-  readS (s-plus {r = r} e x) = on (ReadS T) e (r, refl, x)
-  readS (s-clock {b = b} {r = r} e d x) = on (ReadS T) e (b, r, refl, d, x)
+  pub readS : {k : ℕ} {r : Seq ℕ} → SequenceAt T k r → ReadS T (T k) r
+  readS (s-one {b = b} e d) = along (ReadS T) e (b, refl, d)
+  readS (s-cat {r = r} {s = s} e x y) = along (ReadS T) e (r, s, refl, x, y)
+  readS (s-fuse {r = r} {s = s} e x y) = along (ReadS T) e (r, s, refl, x, y)
+  readS (s-alt {r = r} {s = s} e x y) = along (ReadS T) e (r, s, refl, x, y)
+  readS (s-empty {r = r} e x) = along (ReadS T) e (r, refl, x)
+  readS (s-plus {r = r} e x) = along (ReadS T) e (r, refl, x)
+  readS (s-clock {b = b} {r = r} e d x) = along (ReadS T) e (b, r, refl, d, x)
 
-  readP : {k : ℕ} {P : Prop ℕ} → PropertyAt T k P → ReadP T (T k) P
-  readP (p-strong {r = r} e x) = on (ReadP T) e (r, refl, x)
-  readP (p-weak {r = r} e x) = on (ReadP T) e (r, refl, x)
-  readP (p-neg {P = P} e x) = on (ReadP T) e (P, refl, x)
-  readP (p-next {P = P} e x) = on (ReadP T) e (P, refl, x)
-  readP (p-either {P = P} {Q = Q} e x y) = on (ReadP T) e (P, Q, refl, x, y)
-  readP (p-both {P = P} {Q = Q} e x y) = on (ReadP T) e (P, Q, refl, x, y)
-  readP (p-imp {r = r} {P = P} e x y) = on (ReadP T) e (r, P, refl, x, y)
-  readP (p-until {P = P} {Q = Q} e x y) = on (ReadP T) e (P, Q, refl, x, y)
-  readP (p-clock {b = b} {P = P} e d x) = on (ReadP T) e (b, P, refl, d, x)
+  pub readP : {k : ℕ} {P : Prop ℕ} → PropertyAt T k P → ReadP T (T k) P
+  readP (p-strong {r = r} e x) = along (ReadP T) e (r, refl, x)
+  readP (p-weak {r = r} e x) = along (ReadP T) e (r, refl, x)
+  readP (p-neg {P = P} e x) = along (ReadP T) e (P, refl, x)
+  readP (p-next {P = P} e x) = along (ReadP T) e (P, refl, x)
+  readP (p-either {P = P} {Q = Q} e x y) = along (ReadP T) e (P, Q, refl, x, y)
+  readP (p-both {P = P} {Q = Q} e x y) = along (ReadP T) e (P, Q, refl, x, y)
+  readP (p-imp {r = r} {P = P} e x y) = along (ReadP T) e (r, P, refl, x, y)
+  readP (p-until {P = P} {Q = Q} e x y) = along (ReadP T) e (P, Q, refl, x, y)
+  readP (p-clock {b = b} {P = P} e d x) = along (ReadP T) e (b, P, refl, d, x)
 
   -- a node whose kind is known
   pub asB : {k : ℕ} {v : Node} {b : Bexp ℕ} → T k ≡ v → BooleanAt T k b → ReadB T v b
@@ -113,3 +113,8 @@ module _ {T : ℕ → Node} where
   uniqueP (p-imp e x y) z = let (r, P, q, f, g) = asP e z in (λ i. implies (uniqueS x f i) (uniqueP y g i)) ∙ sym q
   uniqueP (p-until e x y) z = let (P, Q, q, f, g) = asP e z in (λ i. until (uniqueP x f i) (uniqueP y g i)) ∙ sym q
   uniqueP (p-clock e d x) z = let (b, P, q, f, g) = asP e z in (λ i. under (uniqueB d f i) (uniqueP x g i)) ∙ sym q
+
+  -- and a number for one clock
+  pub uniqueC : {ρ : Ref} {κ μ : Clock ℕ} → ClockAt T ρ κ → ClockAt T ρ μ → κ ≡ μ
+  uniqueC c-free c-free = refl
+  uniqueC (c-on b) (c-on d) = ap on (uniqueB b d)

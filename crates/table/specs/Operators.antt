@@ -36,11 +36,11 @@ pub record Entry : Type 0 where
   pub row : Row
   pub make : ℕ → ℕ → Node
 
--- x is a number below the limit, and y is not used
+-- a line whose x is a plain number below a limit: code, own sort, limit, node. y is not used
 abbrev pub number : ℕ → ℕ → ℕ → (ℕ → ℕ → Node) → Entry
 number c own limit f = record { code = c; row = record { own = own; x = none; limit = limit; y = none; block = 1 }; make = f }
 
--- the node's own sort, those of x and y, and the block length under a clock
+-- any other line: code, own sort, sorts of x and y, block length under a clock, node
 abbrev pub sorted : ℕ → ℕ → ℕ → ℕ → ℕ → (ℕ → ℕ → Node) → Entry
 sorted c own x y block f = record { code = c; row = record { own = own; x = x; limit = 0; y = y; block = block }; make = f }
 

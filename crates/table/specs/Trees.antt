@@ -4,6 +4,7 @@ use mathlib.Core.List.{List}
 use Prim.Native.Nat.{ℕ, _≤_}
 use lib.Dec.{eqb}
 use Rattle.meaning.specs.Syntax.{Bexp, const, atom, nott, andd, orr, Seq, one, cat, fuse, alt, empty, plus, clocked, Prop, strong, weak, neg, either, both, implies, next, until, under, Clock, free, on}
+use Rattle.meaning.specs.Parts.{Tree, seq, prop}
 use Rattle.table.specs.declared.nodes.Node.{Node}
 use Rattle.table.specs.declared.nodes.Node.the-variants.{Boolean, Sequence, Property}
 use Rattle.table.specs.declared.nodes.BooleanOp.the-variants.{Constant, Signal, Not, And, Or}
@@ -40,6 +41,11 @@ pub data PropertyAt (T : ℕ → Node) : ℕ → Prop ℕ → Type 0 where
   p-next : {k x : ℕ} {P : Prop ℕ} → T k ≡ Property (Next x) → PropertyAt T x P → PropertyAt T k (next P)
   p-until : {k x y : ℕ} {P Q : Prop ℕ} → T k ≡ Property (Until x y) → PropertyAt T x P → PropertyAt T y Q → PropertyAt T k (until P Q)
   p-clock : {k c x : ℕ} {b : Bexp ℕ} {P : Prop ℕ} → T k ≡ Property (Ticked c x) → BooleanAt T c b → PropertyAt T x P → PropertyAt T k (under b P)
+
+-- a sequence or a property
+pub data TreeAt (T : ℕ → Node) (k : ℕ) : Tree ℕ → Type 0 where
+  t-seq : {r : Seq ℕ} → SequenceAt T k r → TreeAt T k (seq r)
+  t-prop : {P : Prop ℕ} → PropertyAt T k P → TreeAt T k (prop P)
 
 -- ---- clocks
 

@@ -9,7 +9,7 @@ ghost use mathlib.Core.Path.{_≡_};
 ghost use Prim.Native.Nat.{_+_, _*_, _≤_};
 ghost use lib.ListN.{length, take};
 ghost use Rattle.refusal.specs.Computed.{first};
-ghost use Rattle.table.specs.Flags.{topsAt, sequenceTops, nodeTops, hollowProperty, hollowNode, hollow};
+ghost use Rattle.table.specs.Flags.{topsAt, thenTops, fusedTops, eitherTops, sequenceTops, nodeTops, hollowProperty, hollowNode, hollow};
 
 // What a sequence matches of a word of letters ⊤ alone: no letter; some letters, one or more.
 pub struct Tops {
@@ -17,18 +17,53 @@ pub struct Tops {
     pub some: bool,
 }
 
+const NOTHING: Tops = Tops {
+    empty: false,
+    some: false,
+};
+
+const A_LETTER: Tops = Tops {
+    empty: false,
+    some: true,
+};
+
+const NO_LETTER: Tops = Tops {
+    empty: true,
+    some: false,
+};
+
 // Of the operand x, where the k nodes below are done.
 fn tops_at(done: [Tops; 120], k: usize, x: usize) -> Tops
     requires { ⌜ k ≤ 120 ⌝ }
     ensures { λ r. ⌜ r ≡ topsAt (take k done) x ⌝ }
 {
-    if x < k {
-        done[x]
-    } else {
-        Tops {
-            empty: false,
-            some: false,
-        }
+    if x < k { done[x] } else { NOTHING }
+}
+
+fn then_tops(a: Tops, b: Tops) -> Tops
+    ensures { λ r. ⌜ r ≡ thenTops a b ⌝ }
+{
+    Tops {
+        empty: a.empty & b.empty,
+        some: (a.empty & b.some) | (a.some & (b.empty | b.some)),
+    }
+}
+
+fn fused_tops(a: Tops, b: Tops) -> Tops
+    ensures { λ r. ⌜ r ≡ fusedTops a b ⌝ }
+{
+    Tops {
+        empty: false,
+        some: a.some & b.some,
+    }
+}
+
+fn either_tops(a: Tops, b: Tops) -> Tops
+    ensures { λ r. ⌜ r ≡ eitherTops a b ⌝ }
+{
+    Tops {
+        empty: a.empty | b.empty,
+        some: a.some | b.some,
     }
 }
 
@@ -37,57 +72,25 @@ fn sequence_tops(done: [Tops; 120], k: usize, q: SequenceOp) -> Tops
     ensures { λ r. ⌜ r ≡ sequenceTops (take k done) q ⌝ }
 {
     match q {
-        SequenceOp::Letter(_) => Tops {
-            empty: false,
-            some: true,
-        },
-        SequenceOp::Then(x, y) => {
-            let a = tops_at(done, k, x);
-            let b = tops_at(done, k, y);
-            Tops {
-                empty: a.empty & b.empty,
-                some: (a.empty & b.some) | (a.some & (b.empty | b.some)),
-            }
-        }
-        SequenceOp::Fused(x, y) => {
-            let a = tops_at(done, k, x);
-            let b = tops_at(done, k, y);
-            Tops {
-                empty: false,
-                some: a.some & b.some,
-            }
-        }
-        SequenceOp::Either(x, y) => {
-            let a = tops_at(done, k, x);
-            let b = tops_at(done, k, y);
-            Tops {
-                empty: a.empty | b.empty,
-                some: a.some | b.some,
-            }
-        }
-        SequenceOp::Empty(_) => Tops {
-            empty: true,
-            some: false,
-        },
+        SequenceOp::Letter(_) => A_LETTER,
+        SequenceOp::Then(x, y) => then_tops(tops_at(done, k, x), tops_at(done, k, y)),
+        SequenceOp::Fused(x, y) => fused_tops(tops_at(done, k, x), tops_at(done, k, y)),
+        SequenceOp::Either(x, y) => either_tops(tops_at(done, k, x), tops_at(done, k, y)),
+        SequenceOp::Empty(_) => NO_LETTER,
         SequenceOp::Repeat(x) => tops_at(done, k, x),
         SequenceOp::Clocked(_, x) => tops_at(done, k, x),
     }
 }
 
+// Booleans and properties match nothing.
 fn node_tops(done: [Tops; 120], k: usize, v: Node) -> Tops
     requires { ⌜ k ≤ 120 ⌝ }
     ensures { λ r. ⌜ r ≡ nodeTops (take k done) v ⌝ }
 {
     match v {
-        Node::Boolean(_) => Tops {
-            empty: false,
-            some: false,
-        },
+        Node::Boolean(_) => NOTHING,
         Node::Sequence(q) => sequence_tops(done, k, q),
-        Node::Property(_) => Tops {
-            empty: false,
-            some: false,
-        },
+        Node::Property(_) => NOTHING,
     }
 }
 
@@ -120,15 +123,12 @@ fn is_hollow(done: [Tops; 120], k: usize, v: Node) -> bool
     }
 }
 
-// The lowest such node below n, or n.
+// The lowest such node below n, or n: one pass, with the flags of the nodes below.
 pub fn first_hollow(b: &[u8], n: usize) -> usize
     requires { ⌜ (n ≤ 120) × (4 * n + 6 ≤ length (now b)) ⌝ }
     ensures { λ r. ⌜ r ≡ first (hollow (now (b .entry))) 0 n ⌝ }
 {
-    let mut done = [Tops {
-        empty: false,
-        some: false,
-    }; 120];
+    let mut done = [NOTHING; 120];
     let mut k: usize = 0;
     while k < n {
         let v = decode(node_at(b, k));

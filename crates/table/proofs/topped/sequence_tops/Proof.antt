@@ -2,13 +2,13 @@
 -- Assumes nothing.
 use borrow.Author.Needs.{needs}
 use mathlib.Core.Path.{_≡_}
-use mathlib.Core.Bool.{true, false, _&&_, _||_}
+use mathlib.Core.Bool.{true, false}
 use mathlib.Core.List.{List}
 use Prim.Native.Nat.{ℕ}
 use Rattle.table.specs.declared.topped.Tops.{Tops}
 use Rattle.table.specs.declared.nodes.SequenceOp.{SequenceOp}
 use Rattle.table.specs.declared.nodes.SequenceOp.the-variants.{Letter, Then, Fused, Either, Empty, Repeat, Clocked}
-use Rattle.table.specs.Flags.{tops, topsAt, sequenceTops}
+use Rattle.table.specs.Flags.{tops, thenTops, fusedTops, eitherTops, topsAt, sequenceTops}
 use Rattle.table.proofs.topped.sequence_tops.Statement.{statement}
 use Rattle.table.proofs.topped.sequence_tops.Tie as tie
 
@@ -29,18 +29,18 @@ module _ (l : List Tops) (q : SequenceOp) where
   unfolding sequenceTops
   clocked c x e t f = rw (e, f)
 
-  module _ (x y : ℕ) (a : Tops) (ea : a ≡ topsAt l x) (b : Tops) (eb : b ≡ topsAt l y) where
-    thens : q ≡ Then x y → tops (a .empty && b .empty) ((a .empty && b .some) || (a .some && (b .empty || b .some))) ≡ sequenceTops l q
+  module _ (x y : ℕ) (a : Tops) (ea : a ≡ topsAt l x) (b : Tops) (eb : b ≡ topsAt l y) (t : Tops) where
+    thens : q ≡ Then x y → t ≡ thenTops a b → t ≡ sequenceTops l q
     unfolding sequenceTops
-    thens e = rw e (simp (ea, eb))
+    thens e f = rw (e, f, ea, eb)
 
-    fuseds : q ≡ Fused x y → tops false (a .some && b .some) ≡ sequenceTops l q
+    fuseds : q ≡ Fused x y → t ≡ fusedTops a b → t ≡ sequenceTops l q
     unfolding sequenceTops
-    fuseds e = rw e (simp (ea, eb))
+    fuseds e f = rw (e, f, ea, eb)
 
-    eithers : q ≡ Either x y → tops (a .empty || b .empty) (a .some || b .some) ≡ sequenceTops l q
+    eithers : q ≡ Either x y → t ≡ eitherTops a b → t ≡ sequenceTops l q
     unfolding sequenceTops
-    eithers e = rw e (simp (ea, eb))
+    eithers e f = rw (e, f, ea, eb)
 
 pub sequence-tops-spec : {M : Type 1} → statement M
 sequence-tops-spec =
@@ -50,10 +50,13 @@ sequence-tops-spec =
     (λ c. search needs)
     (λ c κs. search needs)
     (λ c κs. search needs)
+    (λ c κs. search needs)
     (λ c. search needs)
     (λ c κs. search needs)
     (λ c κs. search needs)
+    (λ c κs. search needs)
     (λ c. search needs)
+    (λ c κs. search needs)
     (λ c κs. search needs)
     (λ c κs. search needs)
     (λ c. search needs)
