@@ -1,9 +1,9 @@
 // Checking a table: refusals 1 to 9, the first that applies, for any bytes.
-pub mod formed;
+mod formed;
 pub mod nodes;
 pub mod operators;
-pub mod placed;
-pub mod topped;
+mod placed;
+mod topped;
 
 use formed::first_unfit;
 use nodes::sort_at;
@@ -42,6 +42,7 @@ fn check_nodes(b: &[u8], n: usize) -> Verdict
     Verdict { number: 0, node: 0 }
 }
 
+// For any bytes: the number and the node of the first refusal of 1 to 9 that applies, and 0 and 0 where none does.
 pub fn check(b: &[u8]) -> Verdict
     ensures { λ r. ⌜ Checks (now (b .entry)) r ⌝ }
 {

@@ -39,7 +39,7 @@ pub fn sort_at(b: &[u8], k: usize) -> u8
     r.own
 }
 
-// A decoded node: one of three sorts, each with its own kinds. A number is an operand's index, but for a constant's value and a signal's number.
+// The kinds of a boolean, operators 0 to 4. A constant has its value and a signal its number; every other number is an operand's index.
 pub enum BooleanOp {
     Constant(usize),
     Signal(usize),
@@ -48,6 +48,7 @@ pub enum BooleanOp {
     Or(usize, usize),
 }
 
+// The kinds of a sequence, operators 16 to 22: one letter, ##1, ##0, or, [*0], [*1:$], @(c).
 pub enum SequenceOp {
     Letter(usize),
     Then(usize, usize),
@@ -58,6 +59,7 @@ pub enum SequenceOp {
     Clocked(usize, usize),
 }
 
+// The kinds of a property, operators 32 to 40: strong, weak, not, or, and, |->, nexttime, until, @(c).
 pub enum PropertyOp {
     Strong(usize),
     Weak(usize),
@@ -70,6 +72,7 @@ pub enum PropertyOp {
     Ticked(usize, usize),
 }
 
+// A decoded node.
 pub enum Node {
     Boolean(BooleanOp),
     Sequence(SequenceOp),

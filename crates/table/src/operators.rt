@@ -12,6 +12,7 @@ pub struct Row {
     pub block: u8,
 }
 
+// The sorts; 0 for none.
 pub const NONE: u8 = 0;
 
 pub const BOOLEAN: u8 = 1;
