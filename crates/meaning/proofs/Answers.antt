@@ -13,13 +13,13 @@ use Rattle.meaning.specs.Syntax.{Bexp, Seq, Prop, strong, weak, neg, eit
 use Rattle.meaning.specs.Words.{Word, inside, isBot, flip, cut, NoBot, word, Tail, none, tops, bots, after}
 use Rattle.meaning.proofs.Cells.{alive, other}
 use Rattle.meaning.specs.Meaning.{Match, counts, ticks, Second, Strong, Sat}
-use Rattle.meaning.proofs.Order.{Below, same, to-top, side, match-mono, match-alive}
+use Rattle.meaning.proofs.Order.{Below, same, to-top, match-mono, match-alive}
+use Rattle.tests.proofs.Telling.{side, is-map, is-test, is-true, is-false, is-and, is-or, is-not, is-imp, decide, is-eq, is-le, is-some, is-every}
 use Rattle.meaning.proofs.Tails.{AllTop, cut-in, cut-out}
 use Rattle.meaning.proofs.Mono.{strong-mono}
 use Rattle.meaning.proofs.Closed.{bar-word}
 use Rattle.meaning.proofs.Shift.{sat-shift}
 use Rattle.tests.specs.Tests.{Tells, some, every}
-use Rattle.tests.proofs.Telling.{is-map, is-test, is-true, is-false, is-and, is-or, is-not, is-imp, decide, is-eq, is-le, is-some, is-every}
 use Rattle.meaning.proofs.Eval.{matchB, is-match, topB, is-top}
 
 -- how many positions there are, the tail counted as one

@@ -10,11 +10,11 @@ use Rattle.meaning.specs.Syntax.{Bexp, nott, Seq, one, cat, fuse, alt, e
 use Rattle.meaning.specs.Words.{Cell, real, top, bot, end, Word}
 use Rattle.meaning.proofs.Cells.{isTop}
 use Rattle.meaning.specs.Meaning.{Plus, last, more, meets, Match}
-use Rattle.meaning.proofs.Order.{top-above, side, match-le, carry}
+use Rattle.meaning.proofs.Order.{top-above, match-le, carry}
+use Rattle.tests.proofs.Telling.{side, is-map, is-test, is-false, is-and, is-or, is-eq, is-le, is-some, is-every}
 use Rattle.meaning.proofs.Tails.{AllTop}
 use Rattle.meaning.proofs.Unroll.{plus-first}
 use Rattle.tests.specs.Tests.{Tells, some, every}
-use Rattle.tests.proofs.Telling.{is-map, is-test, is-false, is-and, is-or, is-eq, is-le, is-some, is-every}
 
 -- one or more stretches in a row, n steps at most
 unfoldable pub plusB : (ℕ → ℕ → Bool) → ℕ → ℕ → ℕ → Bool

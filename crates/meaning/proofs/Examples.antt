@@ -8,7 +8,7 @@ use native.Mathlib.Omega.{arith}
 use lib.Dec.{T, eqb, ltb}
 use lib.ListN.{length}
 use Rattle.tests.specs.Tests.{Tells, every}
-use Rattle.tests.proofs.Telling.{is-and, is-imp, is-eq, is-lt, is-test, is-every}
+use Rattle.tests.proofs.Telling.{is-and, is-imp, is-eq, is-lt, is-test, is-every, side}
 use Rattle.positions.specs.Member.{has}
 use Rattle.positions.proofs.Laws.{has-past}
 use Rattle.meaning.specs.Syntax.{Seq, free}
@@ -16,7 +16,6 @@ use Rattle.meaning.specs.Words.{word, none}
 use Rattle.meaning.specs.Meaning.{Match, Level, Ends}
 use Rattle.meaning.specs.Signal.{signal}
 use Rattle.meaning.specs.Examples.{Example, judged, ended, examples, Holds, AllHold}
-use Rattle.meaning.proofs.Order.{side}
 use Rattle.meaning.proofs.Eval.{matchB, is-match}
 use Rattle.meaning.proofs.Leveling.{levelB, level-ok, acceptedB, is-accepted}
 

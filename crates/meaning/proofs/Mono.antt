@@ -9,7 +9,8 @@ use Rattle.meaning.specs.Syntax.{Bexp, Seq, Prop, strong, weak, neg, eit
 use Rattle.meaning.specs.Words.{Cell, real, top, bot, end, Word, inside, isBot, bar, cut, NoBot}
 use Rattle.meaning.proofs.Cells.{isTop}
 use Rattle.meaning.specs.Meaning.{counts, ticks, Second, Strong, Sat, Topped, Accepted}
-use Rattle.meaning.proofs.Order.{Below, from-bot, to-top, same, below-flip, top-above, Keeps, from-real, stay, Proper, proper-bar, side, below-meets, match-mono}
+use Rattle.meaning.proofs.Order.{Below, from-bot, to-top, same, below-flip, top-above, Keeps, from-real, stay, Proper, proper-bar, below-meets, match-mono}
+use Rattle.tests.proofs.Telling.{side}
 use Rattle.meaning.proofs.Tails.{cut-in, cut-out, cut-top, top-ticks, bot-ticks, topped-strong, ends}
 
 abbrev pub _⊑_ : {S : Type 0} → Word S → Word S → Type 0

@@ -6,6 +6,7 @@ use Prim.Native.Nat.{ℕ, suc, _+_, _-_, _≤_, _<_}
 use native.Mathlib.Omega.{arith}
 use native.Mathlib.Decide.{decLt}
 use lib.Dec.{T}
+use Rattle.tests.proofs.Telling.{side}
 use Rattle.meaning.specs.Syntax.{Bexp, nott, Seq, one, cat, fuse, alt, empty, plus, clocked, Clock, free, on}
 use Rattle.meaning.specs.Words.{Cell, real, top, bot, end, Word, flip, bar}
 use Rattle.meaning.proofs.Cells.{alive, isTop}
@@ -46,13 +47,6 @@ proper-bar {S} w h p q l = go (h p q l)
 pub plus-le : {M : ℕ → ℕ → Type 0} → ((a b : ℕ) → M a b → a ≤ b) → {i j : ℕ} → Plus M i j → i ≤ j
 plus-le h (last {i = i} {j = j} a) = h i j a
 plus-le h (more {i = i} {m = m} {j = j} a q) = let u = h i m a in let v = plus-le h q in omega arith
-
-pub side : (p m : ℕ) → (p < m) ⊎ (m ≤ p)
-side p m = go (decLt p m)
-  where
-    go : Dec (p < m) → (p < m) ⊎ (m ≤ p)
-    go (yes h) = inl h
-    go (no h) = inr (omega arith)
 
 -- each position of a row lies in one of its stretches
 plus-at : {M : ℕ → ℕ → Type 0} {i j : ℕ} → Plus M i j → (p : ℕ) → i ≤ p → p < j → (a : ℕ) × (b : ℕ) × (a ≤ p) × (p < b) × M a b

@@ -13,11 +13,10 @@ use Rattle.meaning.specs.Words.{Cell, real, top, bot, end, Word, inside,
 use Rattle.meaning.proofs.Cells.{isTop, other}
 use Rattle.meaning.specs.Meaning.{Plus, last, more, value, meets, Match, counts, ticks, Second, Strong, Sat, Topped, Accepted, Level, level3, level2, level1, level0}
 use Rattle.meaning.specs.Rewriting.{tickS, rewS, now, seek, rewP}
-use Rattle.meaning.proofs.Order.{side}
+use Rattle.tests.proofs.Telling.{side, is-test, is-true, is-false, is-and, is-not, test}
 use Rattle.meaning.proofs.Tails.{bot-inside}
 use Rattle.meaning.proofs.Closed.{bar-word}
 use Rattle.tests.specs.Tests.{Tells}
-use Rattle.tests.proofs.Telling.{is-test, is-true, is-false, is-and, is-not, test}
 use Rattle.meaning.proofs.Answers.{word-out, word-inside, word-not-bot, out-ticks, botted, decided, no-bot}
 
 plus-map : {M N : ℕ → ℕ → Type 0} → ((a b : ℕ) → M a b → N a b) → {i j : ℕ} → Plus M i j → Plus N i j
@@ -397,9 +396,14 @@ module _ {A S : Type 0} (reads : A → S → Bool) where
   accepted-rew (on c) (until P Q) a = ((now-topped c, accepted-rew (on c) P (a .0)), (now-topped c, accepted-rew (on c) Q (a .1)))
   accepted-rew κ (under c P) a = accepted-rew (on c) P a
 
-  -- the judge may work on the rewritten property: same level
-  pub level-rew : (P : Prop A) (xs : List S) {m : ℕ} → Level reads (rewP free P) xs m → Level reads P xs m
-  level-rew P xs (level3 s) = level3 (sat-rew free P xs bots zero .1 s)
-  level-rew P xs (level2 s h) = level2 (sat-rew free P xs none zero .1 s) (λ t. h (sat-rew free P xs bots zero .0 t))
-  level-rew P xs (level1 s h) = level1 (sat-rew free P xs tops zero .1 s) (λ t. h (sat-rew free P xs none zero .0 t))
-  level-rew P xs (level0 h) = level0 (λ t. h (sat-rew free P xs tops zero .0 t))
+  -- two properties with the same answers of a record have its level in common
+  same-level : {P Q : Prop A} (xs : List S) → ((t : Tail) → Sat reads free P (word xs t) zero ↔ Sat reads free Q (word xs t) zero) → {m : ℕ}
+      → Level reads P xs m → Level reads Q xs m
+  same-level xs h (level3 s) = level3 (h bots .0 s)
+  same-level xs h (level2 s n) = level2 (h none .0 s) (λ t. n (h bots .1 t))
+  same-level xs h (level1 s n) = level1 (h tops .0 s) (λ t. n (h none .1 t))
+  same-level xs h (level0 n) = level0 (λ t. n (h tops .1 t))
+
+  pub level-rew : (P : Prop A) (xs : List S) (m : ℕ) → Level reads P xs m ↔ Level reads (rewP free P) xs m
+  level-rew P xs m =
+      (same-level xs (λ t. sat-rew free P xs t zero), same-level xs (λ t. (sat-rew free P xs t zero .1, sat-rew free P xs t zero .0)))

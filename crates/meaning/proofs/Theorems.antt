@@ -31,7 +31,7 @@ module _ {A S : Type 0} (reads : A → S → Bool) where
       → Match reads κ r v i j → Match reads κ r w i j
   match-monotone = Order.match-mono reads
 
-  -- no match holds a ⊥, and none goes past the end of the word
+  -- no letter of a match is ⊥ or lies past the end of the word
   pub match-holds-no-bottom : (κ : Clock A) (r : Seq A) (w : Word S) (i j : ℕ) → Match reads κ r w i j → (p : ℕ) → i ≤ p → p < j → T (alive (w p))
   match-holds-no-bottom = Order.match-alive reads
 
@@ -50,8 +50,12 @@ module _ {A S : Type 0} (reads : A → S → Bool) where
       → Sat reads κ P (word xs t) i ↔ Sat reads free (rewP κ P) (word xs t) i
   rewriting-keeps-answers = Rewriting.sat-rew reads
 
-  pub rewriting-keeps-level : (P : Prop A) (xs : List S) {m : ℕ} → Level reads (rewP free P) xs m → Level reads P xs m
+  pub rewriting-keeps-level : (P : Prop A) (xs : List S) (m : ℕ) → Level reads P xs m ↔ Level reads (rewP free P) xs m
   rewriting-keeps-level = Rewriting.level-rew reads
+
+  -- and what is accepted stays accepted
+  pub rewriting-keeps-acceptance : (κ : Clock A) (P : Prop A) → Accepted reads κ P → Accepted reads free (rewP κ P)
+  rewriting-keeps-acceptance = Rewriting.accepted-rew reads
 
   -- every record has a level, and three tests that decide its answers give it
   pub level-exists : (P : Prop A) (xs : List S) → (m : ℕ) × Level reads P xs m

@@ -12,7 +12,7 @@ use lib.Dec.{T, ltb}
 use Rattle.tests.specs.Tests.{Tells}
 use Rattle.tests.proofs.Telling.{passes, passed}
 use Rattle.refusal.specs.declared.Verdict.{Verdict}
-use Rattle.refusal.specs.First.{Refusal, Lowest, when, atLowest, Answers}
+use Rattle.refusal.specs.First.{Refusal, LowestSuch, when, atLowest, Answers}
 use Rattle.refusal.specs.Computed.{firstOf, first, Case, at0, atFirst, firstCase, refused, accepted}
 
 -- the test passes exactly if the refusal is given, and the answer is its number and its node
@@ -132,7 +132,7 @@ module _ (p : ℕ → Bool) where
           (lt-ltb (first p 0 n) n l, same k g l u);
     }
       where
-        same : (k : ℕ) → Lowest n Such k → first p 0 n < n → first p 0 n ≤ k → k ≡ first p 0 n
+        same : (k : ℕ) → LowestSuch n Such k → first p 0 n < n → first p 0 n ≤ k → k ≡ first p 0 n
         same k g l u = go (ltb (first p 0 n) k) refl
           where
             go : (b : Bool) → ltb (first p 0 n) k ≡ b → k ≡ first p 0 n

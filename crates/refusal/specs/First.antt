@@ -12,7 +12,7 @@ pub record Refusal : Type 1 where
   pub given : ℕ → Type 0
 
 -- k is the lowest such node, of n
-pub record Lowest (n : ℕ) (Such : ℕ → Type 0) (k : ℕ) : Type 0 where
+pub record LowestSuch (n : ℕ) (Such : ℕ → Type 0) (k : ℕ) : Type 0 where
   pub below : k < n
   pub such : Such k
   pub lowest : (j : ℕ) → j < k → ¬ Such j
@@ -23,7 +23,7 @@ when i Holds = record { number = i; given = λ k. (k ≡ 0) × Holds }
 
 -- given exactly when this holds of one of n nodes, at the lowest such
 abbrev pub atLowest : ℕ → ℕ → (ℕ → Type 0) → Refusal
-atLowest i n Such = record { number = i; given = Lowest n Such }
+atLowest i n Such = record { number = i; given = LowestSuch n Such }
 
 -- the first that applies is answered; an acceptance has number and node 0
 unfoldable pub Answers : List Refusal → Verdict → Type 0

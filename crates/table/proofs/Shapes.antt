@@ -96,23 +96,23 @@ sorted (Property (Until x y)) = refl
 sorted (Property (Ticked c x)) = refl
 
 -- x is a node below k of the sort and, where it is a sequence or a property, a part of k
-abbrev pub Below : List ℕ → ℕ → ℕ → ℕ → Type 0
-Below s k sort x = (x < k) × (sortAt s x ≡ sort) × (sequence ≤ sort → Part s k x)
+abbrev pub Suits : List ℕ → ℕ → ℕ → ℕ → Type 0
+Suits s k sort x = (x < k) × (sortAt s x ≡ sort) × (sequence ≤ sort → Part s k x)
 
 module _ (s : List ℕ) (k : ℕ) (w : WellFormed s k) where
   pub sort-is : sortAt s k ≡ sortOf (nodeAt s k)
   unfolding sortAt
   sort-is = ap (λ (r : Raw). rowOf (r .op) .own) (sym (coded-at s k w)) ∙ sorted (nodeAt s k)
 
-  operands : Formed (Below s k) (nodeAt s k)
+  operands : Formed (Suits s k) (nodeAt s k)
   operands =
       let e : rawAt s k ≡ bytesOf (nodeAt s k) = sym (coded-at s k w) in
-      formed (Below s k) (nodeAt s k)
-      (subst (λ (r : Raw). T (ltb 0 (rowOf (r .op) .x)) → Below s k (rowOf (r .op) .x) (r .x)) e
+      formed (Suits s k) (nodeAt s k)
+      (subst (λ (r : Raw). T (ltb 0 (rowOf (r .op) .x)) → Suits s k (rowOf (r .op) .x) (r .x)) e
       (λ t. let l = ltb→lt 0 (rowAt s k .x) t in (w .x .below (λ z. omega arith), w .x .sorted (λ z. omega arith), λ h. at-x h refl)))
-      (subst (λ (r : Raw). T (ltb 0 (rowOf (r .op) .y)) → Below s k (rowOf (r .op) .y) (r .y)) e
+      (subst (λ (r : Raw). T (ltb 0 (rowOf (r .op) .y)) → Suits s k (rowOf (r .op) .y) (r .y)) e
       (λ t. let l = ltb→lt 0 (rowAt s k .y) t in (w .y .below (λ z. omega arith), w .y .sorted (λ z. omega arith), λ h. at-y h refl)))
 
   -- the operands of a node whose kind is known
-  pub down : {v : Node} → nodeAt s k ≡ v → Formed (Below s k) v
-  down e = subst (Formed (Below s k)) e operands
+  pub down : {v : Node} → nodeAt s k ≡ v → Formed (Suits s k) v
+  down e = subst (Formed (Suits s k)) e operands

@@ -15,7 +15,7 @@ use Rattle.table.specs.declared.nodes.SequenceOp.the-variants.{Letter, T
 use Rattle.table.specs.declared.nodes.PropertyOp.the-variants.{Strong, Weak, Negated, AnyOf, BothOf, Implies, Next, Until, Ticked}
 use Rattle.table.specs.Operators.{boolean, sequence, property}
 use Rattle.table.specs.Nodes.{sortAt, nodeAt, WellFormed}
-use Rattle.table.proofs.Shapes.{sortOf, Formed, Below, sort-is, down}
+use Rattle.table.proofs.Shapes.{sortOf, Formed, Suits, sort-is, down}
 
 module _ (s : List ℕ) (n : ℕ) (fit : (k : ℕ) → k < n → WellFormed s k) where
   abbrev Booleans : ℕ → Type 0
@@ -33,7 +33,7 @@ module _ (s : List ℕ) (n : ℕ) (fit : (k : ℕ) → k < n → WellFormed s k)
   boolean-in (suc m) k l h e =
       go (λ x f. boolean-in m x (omega arith) (omega arith) (f .1)) (nodeAt s k) refl (down s k (fit k h) refl) (sym (sort-is s k (fit k h)) ∙ e)
     where
-      go : (ih : (x : ℕ) → Below s k boolean x → Booleans x) → (v : Node) → nodeAt s k ≡ v → Formed (Below s k) v → sortOf v ≡ boolean → Booleans k
+      go : (ih : (x : ℕ) → Suits s k boolean x → Booleans x) → (v : Node) → nodeAt s k ≡ v → Formed (Suits s k) v → sortOf v ≡ boolean → Booleans k
       go ih (Boolean (Constant v)) q f z = (const (eqb v 1), b-const q)
       go ih (Boolean (Signal x)) q f z = (atom x, b-sig q)
       go ih (Boolean (Not x)) q f z = let (t, d) = ih x f in (nott t, b-not q d)
@@ -47,10 +47,10 @@ module _ (s : List ℕ) (n : ℕ) (fit : (k : ℕ) → k < n → WellFormed s k)
   sequence-in (suc m) k l h e =
       go (λ x f. sequence-in m x (omega arith) (omega arith) (f .1)) (nodeAt s k) refl (down s k (fit k h) refl) (sym (sort-is s k (fit k h)) ∙ e)
     where
-      bool : (x : ℕ) → Below s k boolean x → Booleans x
+      bool : (x : ℕ) → Suits s k boolean x → Booleans x
       bool x f = boolean-in n x (omega arith) (omega arith) (f .1)
 
-      go : (ih : (x : ℕ) → Below s k sequence x → Sequences x) → (v : Node) → nodeAt s k ≡ v → Formed (Below s k) v → sortOf v ≡ sequence → Sequences k
+      go : (ih : (x : ℕ) → Suits s k sequence x → Sequences x) → (v : Node) → nodeAt s k ≡ v → Formed (Suits s k) v → sortOf v ≡ sequence → Sequences k
       go ih (Sequence (Letter x)) q f z = let (t, d) = bool x f in (one t, s-one q d)
       go ih (Sequence (Then x y)) q f z = let (t, d) = ih x (f .0) in let (u, e) = ih y (f .1) in (cat t u, s-cat q d e)
       go ih (Sequence (Fused x y)) q f z = let (t, d) = ih x (f .0) in let (u, e) = ih y (f .1) in (fuse t u, s-fuse q d e)
@@ -66,13 +66,13 @@ module _ (s : List ℕ) (n : ℕ) (fit : (k : ℕ) → k < n → WellFormed s k)
   property-in (suc m) k l h e =
       go (λ x f. property-in m x (omega arith) (omega arith) (f .1)) (nodeAt s k) refl (down s k (fit k h) refl) (sym (sort-is s k (fit k h)) ∙ e)
     where
-      bool : (x : ℕ) → Below s k boolean x → Booleans x
+      bool : (x : ℕ) → Suits s k boolean x → Booleans x
       bool x f = boolean-in n x (omega arith) (omega arith) (f .1)
 
-      seq : (x : ℕ) → Below s k sequence x → Sequences x
+      seq : (x : ℕ) → Suits s k sequence x → Sequences x
       seq x f = sequence-in n x (omega arith) (omega arith) (f .1)
 
-      go : (ih : (x : ℕ) → Below s k property x → Properties x) → (v : Node) → nodeAt s k ≡ v → Formed (Below s k) v → sortOf v ≡ property → Properties k
+      go : (ih : (x : ℕ) → Suits s k property x → Properties x) → (v : Node) → nodeAt s k ≡ v → Formed (Suits s k) v → sortOf v ≡ property → Properties k
       go ih (Property (Strong x)) q f z = let (t, d) = seq x f in (strong t, p-strong q d)
       go ih (Property (Weak x)) q f z = let (t, d) = seq x f in (weak t, p-weak q d)
       go ih (Property (Negated x)) q f z = let (t, d) = ih x f in (neg t, p-neg q d)

@@ -27,7 +27,7 @@ use Rattle.table.specs.Operators.{sequence}
 use Rattle.table.specs.Nodes.{sortAt, nodeAt, WellFormed}
 use Rattle.table.specs.Trees.{SequenceAt, s-one, s-cat, s-fuse, s-alt, s-empty, s-plus, s-clock, PropertyAt, p-strong, p-weak, p-neg, p-either, p-both, p-imp, p-next, p-until, p-clock}
 use Rattle.table.specs.Check.{Asks, by-strong, by-weak, by-implies}
-use Rattle.table.specs.Flags.{tops, nothing, topsAt, thenTops, fusedTops, eitherTops, sequenceTops, nodeTops, topsBelow, hollowProperty, hollowNode, hollow}
+use Rattle.table.specs.Flags.{flags, nothing, topsAt, thenTops, fusedTops, eitherTops, sequenceTops, nodeTops, topsBelow, hollowProperty, hollowNode, hollow}
 use Rattle.table.proofs.Shapes.{down}
 
 -- ---- the flags of each node, from those of the nodes below
@@ -74,13 +74,13 @@ module _ (s : List ℕ) where
 
 -- whether no letter matches, and whether some k letters ⊤ do, k at least 1
 abbrev Tested : Clock ℕ → Seq ℕ → Tops
-Tested κ r = tops (matchB signal κ r (λ p. top) 0 0) (topB signal κ r (λ p. top) 0 0)
+Tested κ r = flags (matchB signal κ r (λ p. top) 0 0) (topB signal κ r (λ p. top) 0 0)
 
-then-same : (a b : Tops) → thenTops a b ≡ tops ((a .empty && b .empty) || false) (((a .empty && b .some) || false) || (a .some && (b .empty || b .some)))
+then-same : (a b : Tops) → thenTops a b ≡ flags ((a .empty && b .empty) || false) (((a .empty && b .some) || false) || (a .some && (b .empty || b .some)))
 then-same a b = rw (or-false (a .empty && b .empty), or-false (a .empty && b .some))
 
-repeat-same : (a : Tops) → a ≡ tops (a .empty) (a .some || ((a .empty && a .some) || false))
-repeat-same a = λ i. tops (a .empty) (go (a .empty) (a .some) i)
+repeat-same : (a : Tops) → a ≡ flags (a .empty) (a .some || ((a .empty && a .some) || false))
+repeat-same a = λ i. flags (a .empty) (go (a .empty) (a .some) i)
   where
     go : (e m : Bool) → m ≡ (m || ((e && m) || false))
     go e true = refl

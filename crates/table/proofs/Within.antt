@@ -6,7 +6,7 @@ use mathlib.Core.List.{List}
 use Prim.Native.Nat.{ℕ, _<_, _≤_}
 use Rattle.refusal.specs.Heading.{count}
 use Rattle.meaning.specs.Syntax.{Seq, Prop, Clock, free}
-use Rattle.meaning.specs.Parts.{Tree, seq, prop, Reads, cat-x, cat-y, fuse-x, fuse-y, alt-x, alt-y, empty-x, plus-x, clocked-x, strong-x, weak-x, neg-x, either-x, either-y, both-x, both-y, implies-x, implies-y, next-x, until-x, until-y, under-x, Within, whole, part}
+use Rattle.meaning.specs.Parts.{Tree, seq, prop, Enters, cat-x, cat-y, fuse-x, fuse-y, alt-x, alt-y, empty-x, plus-x, clocked-x, strong-x, weak-x, neg-x, either-x, either-y, both-x, both-y, implies-x, implies-y, next-x, until-x, until-y, under-x, Within, whole, part}
 use Rattle.table.specs.declared.nodes.Raw.{Raw}
 use Rattle.table.specs.declared.nodes.Node.{Node}
 use Rattle.table.specs.declared.nodes.Node.the-variants.{Boolean, Sequence, Property}
@@ -114,39 +114,39 @@ module _ (s : List ℕ) where
 
   -- q stands at k, and μ is its clock
   module _ {k : ℕ} (q : Tree ℕ) (t : TreeAt (nodeAt s) k q) (μ : Clock ℕ) where
-    put : {x : ℕ} {κ ν : Clock ℕ} {a b : Tree ℕ} → Reads κ b ν a → TreeAt (nodeAt s) x a → ν ≡ μ → x ≡ k → Reads κ b μ q
+    put : {x : ℕ} {κ ν : Clock ℕ} {a b : Tree ℕ} → Enters κ b ν a → TreeAt (nodeAt s) x a → ν ≡ μ → x ≡ k → Enters κ b μ q
     put {x} {κ} {ν} {a} {b} r f e i =
         let z : a ≡ q = tree-unique (subst (λ (j : ℕ). TreeAt (nodeAt s) j a) i f) t in
-        subst (λ (c : Clock ℕ). Reads κ b c q) e (subst (λ (d : Tree ℕ). Reads κ b ν d) z r)
+        subst (λ (c : Clock ℕ). Enters κ b c q) e (subst (λ (d : Tree ℕ). Enters κ b ν d) z r)
 
     module _ {p : ℕ} (w : WellFormed s p) (n : Part s p k) {σ : Ref} {κ : Clock ℕ} (c : ClockAt (nodeAt s) σ κ) (d : ClockAt (nodeAt s) (handed (nodeAt s p) σ) μ) where
       -- what a node of the kind v hands down
       handing : {v : Node} → nodeAt s p ≡ v → ClockAt (nodeAt s) (handed v σ) μ
       handing e = subst (λ (v : Node). ClockAt (nodeAt s) (handed v σ) μ) e d
 
-      sequence-reads : {r : Seq ℕ} → SequenceAt (nodeAt s) p r → Reads κ (seq r) μ q
-      sequence-reads (s-one e b) = absurd (among w e n)
-      sequence-reads (s-cat e f g) = let h = uniqueC c (handing e) in ⊎-elim (put cat-x (t-seq f) h) (put cat-y (t-seq g) h) (among w e n)
-      sequence-reads (s-fuse e f g) = let h = uniqueC c (handing e) in ⊎-elim (put fuse-x (t-seq f) h) (put fuse-y (t-seq g) h) (among w e n)
-      sequence-reads (s-alt e f g) = let h = uniqueC c (handing e) in ⊎-elim (put alt-x (t-seq f) h) (put alt-y (t-seq g) h) (among w e n)
-      sequence-reads (s-empty e f) = put empty-x (t-seq f) (uniqueC c (handing e)) (among w e n)
-      sequence-reads (s-plus e f) = put plus-x (t-seq f) (uniqueC c (handing e)) (among w e n)
-      sequence-reads (s-clock e b f) = put clocked-x (t-seq f) (uniqueC (c-on b) (handing e)) (among w e n)
+      sequence-enters : {r : Seq ℕ} → SequenceAt (nodeAt s) p r → Enters κ (seq r) μ q
+      sequence-enters (s-one e b) = absurd (among w e n)
+      sequence-enters (s-cat e f g) = let h = uniqueC c (handing e) in ⊎-elim (put cat-x (t-seq f) h) (put cat-y (t-seq g) h) (among w e n)
+      sequence-enters (s-fuse e f g) = let h = uniqueC c (handing e) in ⊎-elim (put fuse-x (t-seq f) h) (put fuse-y (t-seq g) h) (among w e n)
+      sequence-enters (s-alt e f g) = let h = uniqueC c (handing e) in ⊎-elim (put alt-x (t-seq f) h) (put alt-y (t-seq g) h) (among w e n)
+      sequence-enters (s-empty e f) = put empty-x (t-seq f) (uniqueC c (handing e)) (among w e n)
+      sequence-enters (s-plus e f) = put plus-x (t-seq f) (uniqueC c (handing e)) (among w e n)
+      sequence-enters (s-clock e b f) = put clocked-x (t-seq f) (uniqueC (c-on b) (handing e)) (among w e n)
 
-      property-reads : {P : Prop ℕ} → PropertyAt (nodeAt s) p P → Reads κ (prop P) μ q
-      property-reads (p-strong e f) = put strong-x (t-seq f) (uniqueC c (handing e)) (among w e n)
-      property-reads (p-weak e f) = put weak-x (t-seq f) (uniqueC c (handing e)) (among w e n)
-      property-reads (p-neg e f) = put neg-x (t-prop f) (uniqueC c (handing e)) (among w e n)
-      property-reads (p-either e f g) = let h = uniqueC c (handing e) in ⊎-elim (put either-x (t-prop f) h) (put either-y (t-prop g) h) (among w e n)
-      property-reads (p-both e f g) = let h = uniqueC c (handing e) in ⊎-elim (put both-x (t-prop f) h) (put both-y (t-prop g) h) (among w e n)
-      property-reads (p-imp e f g) = let h = uniqueC c (handing e) in ⊎-elim (put implies-x (t-seq f) h) (put implies-y (t-prop g) h) (among w e n)
-      property-reads (p-next e f) = put next-x (t-prop f) (uniqueC c (handing e)) (among w e n)
-      property-reads (p-until e f g) = let h = uniqueC c (handing e) in ⊎-elim (put until-x (t-prop f) h) (put until-y (t-prop g) h) (among w e n)
-      property-reads (p-clock e b f) = put under-x (t-prop f) (uniqueC (c-on b) (handing e)) (among w e n)
+      property-enters : {P : Prop ℕ} → PropertyAt (nodeAt s) p P → Enters κ (prop P) μ q
+      property-enters (p-strong e f) = put strong-x (t-seq f) (uniqueC c (handing e)) (among w e n)
+      property-enters (p-weak e f) = put weak-x (t-seq f) (uniqueC c (handing e)) (among w e n)
+      property-enters (p-neg e f) = put neg-x (t-prop f) (uniqueC c (handing e)) (among w e n)
+      property-enters (p-either e f g) = let h = uniqueC c (handing e) in ⊎-elim (put either-x (t-prop f) h) (put either-y (t-prop g) h) (among w e n)
+      property-enters (p-both e f g) = let h = uniqueC c (handing e) in ⊎-elim (put both-x (t-prop f) h) (put both-y (t-prop g) h) (among w e n)
+      property-enters (p-imp e f g) = let h = uniqueC c (handing e) in ⊎-elim (put implies-x (t-seq f) h) (put implies-y (t-prop g) h) (among w e n)
+      property-enters (p-next e f) = put next-x (t-prop f) (uniqueC c (handing e)) (among w e n)
+      property-enters (p-until e f g) = let h = uniqueC c (handing e) in ⊎-elim (put until-x (t-prop f) h) (put until-y (t-prop g) h) (among w e n)
+      property-enters (p-clock e b f) = put under-x (t-prop f) (uniqueC (c-on b) (handing e)) (among w e n)
 
-      tree-reads : {b : Tree ℕ} → TreeAt (nodeAt s) p b → Reads κ b μ q
-      tree-reads (t-seq f) = sequence-reads f
-      tree-reads (t-prop f) = property-reads f
+      tree-enters : {b : Tree ℕ} → TreeAt (nodeAt s) p b → Enters κ b μ q
+      tree-enters (t-seq f) = sequence-enters f
+      tree-enters (t-prop f) = property-enters f
 
   -- ---- from the root to a node
 
@@ -159,4 +159,4 @@ module _ (s : List ℕ) where
         subst (λ (μ : Clock ℕ). Within free r μ q) (uniqueC c-free d) (subst (λ (t : Tree ℕ). Within free r free t) (tree-unique at-root t) whole)
     read-under {κ = κ} {q = q} (c-part {p = p} {ρ = σ} c n) d t =
         let ((b, f), (μ, m)) = stands p σ c in
-        part (read-under c m f) (tree-reads q t κ (fit p (inside p σ c)) n m d f)
+        part (read-under c m f) (tree-enters q t κ (fit p (inside p σ c)) n m d f)

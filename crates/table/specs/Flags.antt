@@ -15,32 +15,32 @@ use Rattle.table.specs.declared.nodes.PropertyOp.the-variants.{Strong, W
 use Rattle.table.specs.Nodes.{nodeAt}
 
 -- whether the sequence matches no letter, and whether it matches k letters ⊤ for some k of at least 1
-abbrev pub tops : Bool → Bool → Tops
-tops e m = record { empty = e; some = m }
+abbrev pub flags : Bool → Bool → Tops
+flags e m = record { empty = e; some = m }
 
 abbrev pub nothing : Tops
-nothing = tops false false
+nothing = flags false false
 
 abbrev pub topsAt : List Tops → ℕ → Tops
 topsAt done x = getD done x nothing
 
 -- a match of the one and then of the other, either part possibly empty; two that share one letter; a match of either
 abbrev pub thenTops : Tops → Tops → Tops
-thenTops a b = tops (a .empty && b .empty) ((a .empty && b .some) || (a .some && (b .empty || b .some)))
+thenTops a b = flags (a .empty && b .empty) ((a .empty && b .some) || (a .some && (b .empty || b .some)))
 
 abbrev pub fusedTops : Tops → Tops → Tops
-fusedTops a b = tops false (a .some && b .some)
+fusedTops a b = flags false (a .some && b .some)
 
 abbrev pub eitherTops : Tops → Tops → Tops
-eitherTops a b = tops (a .empty || b .empty) (a .some || b .some)
+eitherTops a b = flags (a .empty || b .empty) (a .some || b .some)
 
 -- by the rule of each sequence, from what is known of the nodes below
 unfoldable pub sequenceTops : List Tops → SequenceOp → Tops
-sequenceTops done (Letter b) = tops false true
+sequenceTops done (Letter b) = flags false true
 sequenceTops done (Then x y) = thenTops (topsAt done x) (topsAt done y)
 sequenceTops done (Fused x y) = fusedTops (topsAt done x) (topsAt done y)
 sequenceTops done (Either x y) = eitherTops (topsAt done x) (topsAt done y)
-sequenceTops done (Empty x) = tops true false
+sequenceTops done (Empty x) = flags true false
 sequenceTops done (Repeat x) = topsAt done x
 sequenceTops done (Clocked c x) = topsAt done x
 

@@ -37,36 +37,36 @@ pub record Entry : Type 0 where
   pub make : ℕ → ℕ → Node
 
 -- a line whose x is a plain number below a limit: code, own sort, limit, node. y is not used
-abbrev pub number : ℕ → ℕ → ℕ → (ℕ → ℕ → Node) → Entry
-number c own limit f = record { code = c; row = record { own = own; x = none; limit = limit; y = none; block = 1 }; make = f }
+abbrev pub plain : ℕ → ℕ → ℕ → (ℕ → ℕ → Node) → Entry
+plain c own limit f = record { code = c; row = record { own = own; x = none; limit = limit; y = none; block = 1 }; make = f }
 
 -- any other line: code, own sort, sorts of x and y, block length under a clock, node
-abbrev pub sorted : ℕ → ℕ → ℕ → ℕ → ℕ → (ℕ → ℕ → Node) → Entry
-sorted c own x y block f = record { code = c; row = record { own = own; x = x; limit = 0; y = y; block = block }; make = f }
+abbrev pub line : ℕ → ℕ → ℕ → ℕ → ℕ → (ℕ → ℕ → Node) → Entry
+line c own x y block f = record { code = c; row = record { own = own; x = x; limit = 0; y = y; block = block }; make = f }
 
 unfoldable pub operators : List Entry
 operators =
-    number 0 boolean 2 (λ x y. Boolean (Constant x))
-    ∷ number 1 boolean 64 (λ x y. Boolean (Signal x))
-    ∷ sorted 2 boolean boolean none 1 (λ x y. Boolean (Not x))
-    ∷ sorted 3 boolean boolean boolean 1 (λ x y. Boolean (And x y))
-    ∷ sorted 4 boolean boolean boolean 1 (λ x y. Boolean (Or x y))
-    ∷ sorted 16 sequence boolean none 9 (λ x y. Sequence (Letter x))
-    ∷ sorted 17 sequence sequence sequence 1 (λ x y. Sequence (Then x y))
-    ∷ sorted 18 sequence sequence sequence 1 (λ x y. Sequence (Fused x y))
-    ∷ sorted 19 sequence sequence sequence 1 (λ x y. Sequence (Either x y))
-    ∷ sorted 20 sequence sequence none 1 (λ x y. Sequence (Empty x))
-    ∷ sorted 21 sequence sequence none 1 (λ x y. Sequence (Repeat x))
-    ∷ sorted 22 sequence boolean sequence 0 (λ x y. Sequence (Clocked x y))
-    ∷ sorted 32 property sequence none 1 (λ x y. Property (Strong x))
-    ∷ sorted 33 property sequence none 1 (λ x y. Property (Weak x))
-    ∷ sorted 34 property property none 1 (λ x y. Property (Negated x))
-    ∷ sorted 35 property property property 1 (λ x y. Property (AnyOf x y))
-    ∷ sorted 36 property property property 1 (λ x y. Property (BothOf x y))
-    ∷ sorted 37 property sequence property 1 (λ x y. Property (Implies x y))
-    ∷ sorted 38 property property none 14 (λ x y. Property (Next x))
-    ∷ sorted 39 property property property 9 (λ x y. Property (Until x y))
-    ∷ sorted 40 property boolean property 0 (λ x y. Property (Ticked x y))
+    plain 0 boolean 2 (λ x y. Boolean (Constant x))
+    ∷ plain 1 boolean 64 (λ x y. Boolean (Signal x))
+    ∷ line 2 boolean boolean none 1 (λ x y. Boolean (Not x))
+    ∷ line 3 boolean boolean boolean 1 (λ x y. Boolean (And x y))
+    ∷ line 4 boolean boolean boolean 1 (λ x y. Boolean (Or x y))
+    ∷ line 16 sequence boolean none 9 (λ x y. Sequence (Letter x))
+    ∷ line 17 sequence sequence sequence 1 (λ x y. Sequence (Then x y))
+    ∷ line 18 sequence sequence sequence 1 (λ x y. Sequence (Fused x y))
+    ∷ line 19 sequence sequence sequence 1 (λ x y. Sequence (Either x y))
+    ∷ line 20 sequence sequence none 1 (λ x y. Sequence (Empty x))
+    ∷ line 21 sequence sequence none 1 (λ x y. Sequence (Repeat x))
+    ∷ line 22 sequence boolean sequence 0 (λ x y. Sequence (Clocked x y))
+    ∷ line 32 property sequence none 1 (λ x y. Property (Strong x))
+    ∷ line 33 property sequence none 1 (λ x y. Property (Weak x))
+    ∷ line 34 property property none 1 (λ x y. Property (Negated x))
+    ∷ line 35 property property property 1 (λ x y. Property (AnyOf x y))
+    ∷ line 36 property property property 1 (λ x y. Property (BothOf x y))
+    ∷ line 37 property sequence property 1 (λ x y. Property (Implies x y))
+    ∷ line 38 property property none 14 (λ x y. Property (Next x))
+    ∷ line 39 property property property 9 (λ x y. Property (Until x y))
+    ∷ line 40 property boolean property 0 (λ x y. Property (Ticked x y))
     ∷ []
 
 abbrev pub unknown : Row

@@ -4,6 +4,7 @@ use mathlib.Core.Path.{_≡_, refl, subst}
 use mathlib.Core.Logic.{_⊎_, inl, inr, ⊎-elim}
 use Prim.Native.Nat.{ℕ, zero, suc, _+_, _≤_, _<_}
 use native.Mathlib.Omega.{arith}
+use native.Mathlib.Decide.{decLt}
 use native.Mathlib.Nat.{eq-or-lt-of-le}
 use lib.Dec.{T, leb, ltb, eqb, leb→le, le→leb, ltb→lt, lt→ltb, eqb→eq, eqb-refl}
 use Rattle.tests.specs.Tests.{Tells, some, every}
@@ -68,6 +69,13 @@ decide {a = false} h = inr (h .from)
 pub test : (a : Bool) → T a ⊎ T (not a)
 test true = inl tt
 test false = inr tt
+
+pub side : (p m : ℕ) → (p < m) ⊎ (m ≤ p)
+side p m = go (decLt p m)
+  where
+    go : Dec (p < m) → (p < m) ⊎ (m ≤ p)
+    go (yes h) = inl h
+    go (no h) = inr (omega arith)
 
 pub is-eq : (m n : ℕ) → Tells (eqb m n) (m ≡ n)
 is-eq m n = record { to = eqb→eq m n; from = λ e. subst (λ x. T (eqb m x)) e (eqb-refl m) }

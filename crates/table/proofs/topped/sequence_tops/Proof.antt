@@ -8,16 +8,16 @@ use Prim.Native.Nat.{ℕ}
 use Rattle.table.specs.declared.topped.Tops.{Tops}
 use Rattle.table.specs.declared.nodes.SequenceOp.{SequenceOp}
 use Rattle.table.specs.declared.nodes.SequenceOp.the-variants.{Letter, Then, Fused, Either, Empty, Repeat, Clocked}
-use Rattle.table.specs.Flags.{tops, thenTops, fusedTops, eitherTops, topsAt, sequenceTops}
+use Rattle.table.specs.Flags.{flags, thenTops, fusedTops, eitherTops, topsAt, sequenceTops}
 use Rattle.table.proofs.topped.sequence_tops.Statement.{statement}
 use Rattle.table.proofs.topped.sequence_tops.Tie as tie
 
 module _ (l : List Tops) (q : SequenceOp) where
-  letter : (x : ℕ) → q ≡ Letter x → tops false true ≡ sequenceTops l q
+  letter : (x : ℕ) → q ≡ Letter x → flags false true ≡ sequenceTops l q
   unfolding sequenceTops
   letter x e = rw e
 
-  empty : (x : ℕ) → q ≡ Empty x → tops true false ≡ sequenceTops l q
+  empty : (x : ℕ) → q ≡ Empty x → flags true false ≡ sequenceTops l q
   unfolding sequenceTops
   empty x e = rw e
 
