@@ -4,7 +4,7 @@ use mathlib.Core.Bool.{Bool, not}
 use mathlib.Core.Logic.{_⊎_, inl, inr, ⊎-elim}
 use Prim.Native.Nat.{ℕ, zero, suc, _≤_, _<_, zero-le}
 use native.Mathlib.Omega.{arith}
-use lib.Dec.{T, T-not, ltb}
+use lib.Dec.{T, T-not, not-T, ltb}
 use Rattle.meaning.specs.Syntax.{Bexp, Seq, Prop, strong, weak, neg, either, both, implies, next, until, under, Clock, free, on}
 use Rattle.meaning.specs.Words.{Cell, real, top, bot, end, Word, inside, isBot, bar, cut, NoBot}
 use Rattle.meaning.proofs.Cells.{isTop}
@@ -52,12 +52,6 @@ module _ {S : Type 0} where
   in-back : {x y : Cell S} → Keeps x y → T (inside y) → T (inside x)
   in-back from-real t = tt
   in-back stay t = t
-
-  not-bot : (x : Cell S) → (T (isBot x) → ⊥) → T (not (isBot x))
-  not-bot (real s) h = tt
-  not-bot top h = tt
-  not-bot bot h = h tt
-  not-bot end h = tt
 
   top-bot : (x : Cell S) → T (isTop x) → T (isBot x) → ⊥
   top-bot (real s) t u = t
@@ -158,7 +152,7 @@ module _ {A S : Type 0} (reads : A → S → Bool) where
                 let e′ = uniq j′ a (omega arith) (back j′ (omega arith) x) in
                 omega arith,
             λ p u.
-                not-bot (v p)
+                not-T (isBot (v p))
                 (λ b. ⊎-elim (λ l. top-bot (v k) t (bots-stay (pv p k (omega arith)) b)) (λ l. top-bot (v p) (tops-stay (pv k p l) t) b) (side p k)),
           )
   next-up c P w v i h pw pv ih (inr (never, nb)) =

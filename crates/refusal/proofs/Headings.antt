@@ -10,7 +10,7 @@ use lib.Dec.{T}
 use lib.ListN.{length, getD, take}
 use lib.Seq.{getD-take}
 use Rattle.tests.specs.Tests.{Tells}
-use Rattle.tests.proofs.Telling.{is-map, is-then, is-not, is-eq, is-lt}
+use Rattle.tests.proofs.Telling.{is-map, is-and, is-not, is-eq, is-lt}
 use Rattle.refusal.specs.declared.Verdict.{Verdict}
 use Rattle.refusal.specs.Computed.{Case, firstCase, headingCases, isMarked, isVersionOne}
 use Rattle.refusal.specs.First.{Answers}
@@ -20,7 +20,7 @@ use Rattle.refusal.proofs.Deciding.{Decides, answers, only, decided-whe
 marked-tells : (letter : ℕ) (s : List ℕ) → 6 ≤ length s → Tells (isMarked letter s) (take 3 s ≡ mark letter)
 unfolding isMarked
 marked-tells letter s l =
-    is-map (is-then (is-eq (getD s 0 0) 83) (is-then (is-eq (getD s 1 0) 86) (is-eq (getD s 2 0) letter))) (to s l) (from s)
+    is-map (is-and (is-eq (getD s 0 0) 83) (is-and (is-eq (getD s 1 0) 86) (is-eq (getD s 2 0) letter))) (to s l) (from s)
   where
     to : (s : List ℕ) → 6 ≤ length s → (getD s 0 0 ≡ 83) × ((getD s 1 0 ≡ 86) × (getD s 2 0 ≡ letter)) → take 3 s ≡ mark letter
     to [] l q = absurd (omega arith)
@@ -37,7 +37,7 @@ marked-tells letter s l =
 version-tells : (s : List ℕ) → 6 ≤ length s → Tells (isVersionOne s) (version s ≡ 1)
 unfolding isVersionOne
 version-tells s l =
-    is-map (is-then (is-eq (getD s 3 0) 1) (is-eq (getD s 4 0) 0)) (λ q. let v = read s l in omega arith)
+    is-map (is-and (is-eq (getD s 3 0) 1) (is-eq (getD s 4 0) 0)) (λ q. let v = read s l in omega arith)
     (λ e. let v = read s l in (omega arith, omega arith))
   where
     read : (s : List ℕ) → 6 ≤ length s → version s ≡ getD s 3 0 + 256 * getD s 4 0

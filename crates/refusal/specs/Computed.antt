@@ -1,6 +1,6 @@
 -- The first refusal that applies, the lowest node that a test passes, and the tests of the first six bytes, as antt computes them: what the code is
 -- held to. `proofs/Deciding.antt` and `proofs/Headings.antt` show that they are those of First.antt and Heading.antt. Assumes nothing.
-use mathlib.Core.Bool.{Bool, false, not, cond}
+use mathlib.Core.Bool.{Bool, not, cond, _&&_}
 use mathlib.Core.List.{List, [], _∷_}
 use Prim.Native.Nat.{ℕ, zero, suc, _-_}
 use lib.Dec.{ltb, eqb}
@@ -40,10 +40,10 @@ firstCase (c ∷ cs) = cond (c .applies) (c .answer) (firstCase cs)
 -- ---- the first six bytes
 
 unfoldable pub isMarked : ℕ → List ℕ → Bool
-isMarked letter s = cond (eqb (getD s 0 0) 83) (cond (eqb (getD s 1 0) 86) (eqb (getD s 2 0) letter) false) false
+isMarked letter s = eqb (getD s 0 0) 83 && (eqb (getD s 1 0) 86 && eqb (getD s 2 0) letter)
 
 unfoldable pub isVersionOne : List ℕ → Bool
-isVersionOne s = cond (eqb (getD s 3 0) 1) (eqb (getD s 4 0) 0) false
+isVersionOne s = eqb (getD s 3 0) 1 && eqb (getD s 4 0) 0
 
 unfoldable pub headingCases : ℕ → List ℕ → List Case
 headingCases letter s =

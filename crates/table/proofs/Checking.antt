@@ -1,6 +1,6 @@
 -- The tests of a table decide its refusals, one after the other; and what an accepted table has. Assumes nothing.
 use native.Mathlib.Omega.{arith}
-use native.Mathlib.Nat.{eq-or-lt-of-le, le-of-suc-le-suc, lt-of-not-le}
+use native.Mathlib.Nat.{eq-or-lt-of-le, le-of-suc-le-suc, lt-of-not-le, pos-of-ne-zero}
 use borrow.Author.Tests.{le-ltb, ne-eqb, eqb-true, not-false}
 use mathlib.Core.Path.{_≡_, refl, _∙_, sym, ap, subst}
 use mathlib.Core.Logic.{_⊎_, inl, inr, ⊎-elim}
@@ -10,7 +10,7 @@ use Prim.Native.Nat.{ℕ, suc, _+_, _*_, _<_, _≤_}
 use lib.Dec.{eqb}
 use lib.ListN.{length}
 use Rattle.tests.specs.Tests.{Tells}
-use Rattle.tests.proofs.Telling.{is-map, is-or, is-not, is-unless, is-eq, is-lt, passed, failed}
+use Rattle.tests.proofs.Telling.{is-map, is-or, is-and, is-not, is-eq, is-lt, passed, failed}
 use Rattle.refusal.specs.declared.Verdict.{Verdict}
 use Rattle.refusal.specs.Heading.{count, headingRefusals}
 use Rattle.refusal.specs.Computed.{headingCases}
@@ -50,7 +50,7 @@ module _ (s : List ℕ) where
   astray-tells : (n k : ℕ) → Tells (astray s n k) (Astray s n k)
   unfolding astray
   astray-tells n k =
-      is-map (is-unless (is-lt (sortAt s k) sequence) (is-unless (is-eq (k + 1) n) (is-not (is-eq (usesOf s k n) 1))))
+      is-map (is-and (is-not (is-lt (sortAt s k) sequence)) (is-and (is-not (is-eq (k + 1) n)) (is-not (is-eq (usesOf s k n) 1))))
       (λ q. record { sort = heavy-sort k (le-of-suc-le-suc (lt-of-not-le (q .0))); inner = λ e. q .1 .0 (omega arith); places = q .1 .1 })
       (λ a. (⊎-elim (λ (e : sortAt s k ≡ sequence) h. omega arith) (λ (e : sortAt s k ≡ property) h. omega arith) (a .sort), (λ e. a .inner (omega arith), a .places)))
 
@@ -115,15 +115,12 @@ module _ (s : List ℕ) where
                       λ h7.
                           let once = placed n (none-below (astray s n) n (not-applied seven h7)) in (
                             decided-when 8 (is-eq (sortAt s (root s)) boolean),
-                            λ h8. (decided-lowest (hollow s) n 9 (hollows-tell (nonzero n (λ e. h4 0 (refl, inl e))) fit once), λ _. tt),
+                            λ h8. (decided-lowest (hollow s) n 9 (hollows-tell (pos-of-ne-zero (λ e. h4 0 (refl, inl e))) fit once), λ _. tt),
                           ),
                     ),
               ),
         ),
       ))
-    where
-      nonzero : (n : ℕ) → ¬ (n ≡ 0) → 1 ≤ n
-      nonzero n h = omega arith
 
   pub checks : (v : Verdict) → v ≡ checked s → Checks s v
   unfolding checked

@@ -1,12 +1,12 @@
 -- The test of a node decides that it is well formed, and a well-formed node is decoded to the node that has its bytes. Assumes nothing.
 use native.Mathlib.Omega.{arith}
 use mathlib.Core.Path.{_≡_}
-use mathlib.Core.Bool.{Bool, true, false, cond}
+use mathlib.Core.Bool.{Bool, true, false, cond, _&&_}
 use mathlib.Core.List.{List}
 use Prim.Native.Nat.{ℕ}
 use lib.Dec.{eqb, ltb}
 use Rattle.tests.specs.Tests.{Tells}
-use Rattle.tests.proofs.Telling.{is-map, is-then, is-unless, is-eq, is-lt}
+use Rattle.tests.proofs.Telling.{is-map, is-and, is-not, is-eq, is-lt}
 use Rattle.table.specs.Operators.{none, bytesOf}
 use Rattle.table.specs.Nodes.{rawAt, rowAt, sortAt, nodeAt, Operand, WellFormed}
 use Rattle.table.specs.Computed.{operandFits, nodeFits}
@@ -16,21 +16,21 @@ operand-tells : (s : List ℕ) (k sort limit v : ℕ) → Tells (operandFits s k
 unfolding operandFits
 operand-tells s k sort limit v = go (is-eq sort none)
   where
-    go : {b : Bool} → Tells b (sort ≡ none) → Tells (cond b (ltb v limit) (cond (ltb v k) (eqb (sortAt s v) sort) false)) (Operand s k sort limit v)
+    go : {b : Bool} → Tells b (sort ≡ none) → Tells (cond b (ltb v limit) (ltb v k && eqb (sortAt s v) sort)) (Operand s k sort limit v)
     go {b = true} h =
         is-map (is-lt v limit) (λ l. record { number = λ _. l; below = λ z. absurd (z (h .to tt)); sorted = λ z. absurd (z (h .to tt)) })
         (λ o. o .number (h .to tt))
     go {b = false} h =
-        is-map (is-then (is-lt v k) (is-eq (sortAt s v) sort))
+        is-map (is-and (is-lt v k) (is-eq (sortAt s v) sort))
         (λ q. record { number = λ z. absurd (h .from z); below = λ _. q .0; sorted = λ _. q .1 }) (λ o. (o .below (h .from), o .sorted (h .from)))
 
 pub fits-tells : (s : List ℕ) (k : ℕ) → Tells (nodeFits s k) (WellFormed s k)
 unfolding nodeFits
 fits-tells s k =
     is-map
-    (is-unless (is-eq (sortAt s k) none)
-    (is-then (is-eq (rawAt s k .fourth) 0)
-    (is-then (operand-tells s k (rowAt s k .x) (rowAt s k .limit) (rawAt s k .x)) (operand-tells s k (rowAt s k .y) 1 (rawAt s k .y)))))
+    (is-and (is-not (is-eq (sortAt s k) none))
+    (is-and (is-eq (rawAt s k .fourth) 0)
+    (is-and (operand-tells s k (rowAt s k .x) (rowAt s k .limit) (rawAt s k .x)) (operand-tells s k (rowAt s k .y) 1 (rawAt s k .y)))))
     (λ q. record { known = q .0; x = q .1 .1 .0; y = q .1 .1 .1; fourth = q .1 .0 })
     (λ w. (w .known, (w .fourth, (w .x, w .y))))
 

@@ -1,9 +1,9 @@
 -- Operand places: a node that stands in one has one node above it, of which it is a part. Assumes nothing.
 use native.Mathlib.Omega.{arith}
-use native.Mathlib.Nat.{not-suc-le-zero, eq-or-lt-of-le, le-of-suc-le-suc}
+use native.Mathlib.Nat.{eq-zero-or-pos, not-suc-le-zero, eq-or-lt-of-le, le-of-suc-le-suc}
 use borrow.Author.Tests.{eqb-true, eqb-false, eq-eqb, ne-eqb}
 use mathlib.Core.Path.{_≡_, refl, _∙_, sym, ap, subst}
-use mathlib.Core.Logic.{_⊎_, inl, inr, ⊎-elim}
+use mathlib.Core.Logic.{⊎-elim}
 use mathlib.Core.Bool.{Bool, true, false, cond, _&&_, _||_}
 use mathlib.Core.List.{List, [], _∷_}
 use Prim.Native.Nat.{ℕ, zero, suc, _+_, _<_, _≤_}
@@ -13,10 +13,6 @@ use Rattle.table.specs.declared.operators.Row.{Row}
 use Rattle.table.specs.Operators.{none, sequence, property, Entry, operators, unknown, lookup, rowOf}
 use Rattle.table.specs.Nodes.{rawAt, rowAt, sortAt, hitsOf, placesOf, usesOf, WellFormed}
 use Rattle.table.specs.Trees.{Part, at-x, at-y}
-
-zero-or-more : (n : ℕ) → (n ≡ 0) ⊎ (0 < n)
-zero-or-more zero = inl refl
-zero-or-more (suc n) = inr (omega arith)
 
 -- ---- a place that is hit holds the node
 
@@ -90,7 +86,7 @@ module _ (s : List ℕ) (x : ℕ) where
   some-place zero h = absurd (not-suc-le-zero h)
   some-place (suc n) h =
       ⊎-elim (λ (e : placesOf s x n ≡ 0). let (k, l, p) = some-place n (omega arith) in (k, omega arith, p)) (λ (p : 0 < placesOf s x n). (n, omega arith, p))
-      (zero-or-more (placesOf s x n))
+      (eq-zero-or-pos (placesOf s x n))
 
   -- ---- a place of a sequence or a property is a part, and a part stands in a place
 
@@ -113,7 +109,7 @@ module _ (s : List ℕ) (x : ℕ) where
       let (z, q) = hit (rowAt s p .x) (rawAt s p .x) x g in
       let o : sortAt s x ≡ rowAt s p .x = ap (sortAt s) (sym q) ∙ w .x .sorted z in
       at-x (omega arith) q)
-      (zero-or-more (hitsOf (rowAt s p .x) (rawAt s p .x) x))
+      (eq-zero-or-pos (hitsOf (rowAt s p .x) (rawAt s p .x) x))
 
   -- a part lies below its node, and is a sequence or a property like it
   pub part-below : {p : ℕ} → WellFormed s p → Part s p x → x < p

@@ -2,6 +2,7 @@
 -- and a property of a table with no such node is accepted by the meaning. Assumes nothing.
 use native.Mathlib.Omega.{arith}
 use native.Mathlib.Nat.{not-suc-le-zero, eq-or-lt-of-le, le-of-suc-le-suc}
+use borrow.Author.Tests.{not-false}
 use mathlib.Core.Path.{_≡_, refl, _∙_, sym, ap, subst}
 use mathlib.Core.Logic.{⊎-elim}
 use mathlib.Core.Bool.{Bool, true, false, not, _&&_, _||_, or-false, and-false}
@@ -11,7 +12,7 @@ use lib.Dec.{T}
 use lib.ListN.{length, length-append, List·getD-append}
 use lib.Seq.{getD-at}
 use Rattle.tests.specs.Tests.{Tells, some, every}
-use Rattle.tests.proofs.Telling.{is-not}
+use Rattle.tests.proofs.Telling.{is-not, passed}
 use Rattle.meaning.specs.Syntax.{Seq, Prop, Clock, free, on}
 use Rattle.meaning.specs.Words.{top}
 use Rattle.meaning.specs.Meaning.{Topped, Accepted}
@@ -20,14 +21,13 @@ use Rattle.meaning.proofs.Eval.{matchB, plusB, topB}
 use Rattle.meaning.proofs.Leveling.{toppedB, is-topped}
 use Rattle.table.specs.declared.nodes.Node.{Node}
 use Rattle.table.specs.declared.nodes.Node.the-variants.{Boolean, Sequence, Property}
-use Rattle.table.specs.declared.nodes.SequenceOp.the-variants.{Then, Fused, Either, Repeat, Clocked}
 use Rattle.table.specs.declared.nodes.PropertyOp.the-variants.{Strong, Weak, Negated, AnyOf, BothOf, Implies, Next, Until, Ticked}
 use Rattle.table.specs.declared.topped.Tops.{Tops}
 use Rattle.table.specs.Operators.{sequence}
 use Rattle.table.specs.Nodes.{sortAt, nodeAt, WellFormed}
 use Rattle.table.specs.Trees.{SequenceAt, s-one, s-cat, s-fuse, s-alt, s-empty, s-plus, s-clock, PropertyAt, p-strong, p-weak, p-neg, p-either, p-both, p-imp, p-next, p-until, p-clock}
 use Rattle.table.specs.Check.{Asks, by-strong, by-weak, by-implies}
-use Rattle.table.specs.Flags.{flags, nothing, topsAt, thenTops, fusedTops, eitherTops, sequenceTops, nodeTops, topsBelow, hollowProperty, hollowNode, hollow}
+use Rattle.table.specs.Flags.{flags, nothing, topsAt, thenTops, sequenceTops, nodeTops, topsBelow, hollowProperty, hollowNode, hollow}
 use Rattle.table.proofs.Shapes.{down}
 
 -- ---- the flags of each node, from those of the nodes below
@@ -50,26 +50,6 @@ module _ (s : List ℕ) where
       (λ l. List·getD-append (topsBelow s n) (flagsAt n ∷ []) nothing k (rw (long n) l) ∙ at n k l)
       (eq-or-lt-of-le (le-of-suc-le-suc h))
 
-  then-flags : {k x y : ℕ} → nodeAt s k ≡ Sequence (Then x y) → x < k → y < k → flagsAt k ≡ thenTops (flagsAt x) (flagsAt y)
-  unfolding nodeTops sequenceTops
-  then-flags {k} {x} {y} e h g = rw (e, at k x h, at k y g)
-
-  fused-flags : {k x y : ℕ} → nodeAt s k ≡ Sequence (Fused x y) → x < k → y < k → flagsAt k ≡ fusedTops (flagsAt x) (flagsAt y)
-  unfolding nodeTops sequenceTops
-  fused-flags {k} {x} {y} e h g = rw (e, at k x h, at k y g)
-
-  either-flags : {k x y : ℕ} → nodeAt s k ≡ Sequence (Either x y) → x < k → y < k → flagsAt k ≡ eitherTops (flagsAt x) (flagsAt y)
-  unfolding nodeTops sequenceTops
-  either-flags {k} {x} {y} e h g = rw (e, at k x h, at k y g)
-
-  repeat-flags : {k x : ℕ} → nodeAt s k ≡ Sequence (Repeat x) → x < k → flagsAt k ≡ flagsAt x
-  unfolding nodeTops sequenceTops
-  repeat-flags {k} {x} e h = rw (e, at k x h)
-
-  clock-flags : {k c x : ℕ} → nodeAt s k ≡ Sequence (Clocked c x) → x < k → flagsAt k ≡ flagsAt x
-  unfolding nodeTops sequenceTops
-  clock-flags {k} {c} {x} e h = rw (e, at k x h)
-
 -- ---- the tests of matching, of letters ⊤ alone
 
 -- whether no letter matches, and whether some k letters ⊤ do, k at least 1
@@ -91,22 +71,22 @@ module _ (s : List ℕ) (n : ℕ) (fit : (k : ℕ) → k < n → WellFormed s k)
   unfolding matchB topB plusB some every nodeTops sequenceTops
   tested (s-one e d) h free = rw e
   tested (s-one e d) h (on c) = rw e
-  tested {k} (s-cat {r = a} {s = b} e d f) h κ =
+  tested {k} (s-cat {x = x} {y = y} {r = a} {s = b} e d f) h κ =
       let (g, j) = down s k (fit k h) e in
-      then-flags s e (g .0) (j .0) ∙ rw (tested d (omega arith) κ, tested f (omega arith) κ) (then-same (Tested κ a) (Tested κ b))
-  tested {k} (s-fuse e d f) h κ =
+      rw (e, at s k x (g .0), at s k y (j .0), tested d (omega arith) κ, tested f (omega arith) κ) (then-same (Tested κ a) (Tested κ b))
+  tested {k} (s-fuse {x = x} {y = y} e d f) h κ =
       let (g, j) = down s k (fit k h) e in
-      fused-flags s e (g .0) (j .0) ∙ rw (tested d (omega arith) κ, tested f (omega arith) κ)
-  tested {k} (s-alt e d f) h κ =
+      rw (e, at s k x (g .0), at s k y (j .0), tested d (omega arith) κ, tested f (omega arith) κ)
+  tested {k} (s-alt {x = x} {y = y} e d f) h κ =
       let (g, j) = down s k (fit k h) e in
-      either-flags s e (g .0) (j .0) ∙ rw (tested d (omega arith) κ, tested f (omega arith) κ)
+      rw (e, at s k x (g .0), at s k y (j .0), tested d (omega arith) κ, tested f (omega arith) κ)
   tested (s-empty e d) h κ = rw e
-  tested {k} (s-plus {r = a} e d) h κ =
+  tested {k} (s-plus {x = x} {r = a} e d) h κ =
       let g = down s k (fit k h) e in
-      repeat-flags s e (g .0) ∙ rw (tested d (omega arith) κ) (repeat-same (Tested κ a))
-  tested {k} (s-clock {b = b} e c d) h κ =
+      rw (e, at s k x (g .0), tested d (omega arith) κ) (repeat-same (Tested κ a))
+  tested {k} (s-clock {x = x} {b = b} e c d) h κ =
       let (g, j) = down s k (fit k h) e in
-      clock-flags s e (j .0) ∙ tested d (omega arith) (on b)
+      rw (e, at s k x (j .0)) (tested d (omega arith) (on b))
 
   topped-tells : {k : ℕ} {r : Seq ℕ} → SequenceAt (nodeAt s) k r → k < n → (κ : Clock ℕ) → Tells (flagsAt s k .some) (Topped signal κ r)
   unfolding toppedB
@@ -154,11 +134,7 @@ module _ (s : List ℕ) (n : ℕ) (fit : (k : ℕ) → k < n → WellFormed s k)
     unfolding hollow
     asked-topped {k} {x} h e a d κ =
         let (f, l, z) = asked k h a e in
-        topped-tells d (omega arith) κ .to (go (flagsAt s x .some) (sym f ∙ ap (hollowNode (topsBelow s k)) (sym e) ∙ solid k h))
-      where
-        go : (b : Bool) → not b ≡ false → T b
-        go true q = tt
-        go false q = subst T q tt
+        topped-tells d (omega arith) κ .to (passed (not-false (flagsAt s x .some) (sym f ∙ ap (hollowNode (topsBelow s k)) (sym e) ∙ solid k h)))
 
     pub accepted-at : {k : ℕ} {P : Prop ℕ} → PropertyAt (nodeAt s) k P → k < n → (κ : Clock ℕ) → Accepted signal κ P
     unfolding Accepted

@@ -1,7 +1,7 @@
 -- The refusals of a table as tests that antt computes: what the code is held to. `proofs/Checking.antt` shows that they decide the refusals of Check.antt.
 -- Assumes nothing.
 use mathlib.Core.Path.{_≡_}
-use mathlib.Core.Bool.{Bool, false, not, cond, _||_}
+use mathlib.Core.Bool.{Bool, not, cond, _&&_, _||_}
 use mathlib.Core.List.{List, [], _∷_, _++_}
 use Prim.Native.Nat.{ℕ, _+_, _*_, _-_, _<_}
 use lib.Dec.{ltb, eqb}
@@ -16,14 +16,13 @@ use Rattle.table.specs.Flags.{hollow}
 -- ---- 6
 
 unfoldable pub operandFits : List ℕ → ℕ → ℕ → ℕ → ℕ → Bool
-operandFits s k sort limit v = cond (eqb sort none) (ltb v limit) (cond (ltb v k) (eqb (sortAt s v) sort) false)
+operandFits s k sort limit v = cond (eqb sort none) (ltb v limit) (ltb v k && eqb (sortAt s v) sort)
 
 unfoldable pub nodeFits : List ℕ → ℕ → Bool
 nodeFits s k =
-    cond (eqb (sortAt s k) none) false
-    (cond (eqb (rawAt s k .fourth) 0)
-    (cond (operandFits s k (rowAt s k .x) (rowAt s k .limit) (rawAt s k .x)) (operandFits s k (rowAt s k .y) 1 (rawAt s k .y)) false)
-    false)
+    not (eqb (sortAt s k) none)
+    && (eqb (rawAt s k .fourth) 0
+    && (operandFits s k (rowAt s k .x) (rowAt s k .limit) (rawAt s k .x) && operandFits s k (rowAt s k .y) 1 (rawAt s k .y)))
 
 abbrev pub unfit : List ℕ → ℕ → Bool
 unfit s k = not (nodeFits s k)
@@ -39,7 +38,7 @@ unfoldable pub Counted : List ℕ → ℕ → List ℕ → Type 0
 Counted s n uses = (k : ℕ) → k < 120 → getD uses k 0 ≡ usesOf s k n
 
 unfoldable pub astray : List ℕ → ℕ → ℕ → Bool
-astray s n k = cond (ltb (sortAt s k) sequence) false (cond (eqb (k + 1) n) false (not (eqb (usesOf s k n) 1)))
+astray s n k = not (ltb (sortAt s k) sequence) && (not (eqb (k + 1) n) && not (eqb (usesOf s k n) 1))
 
 -- ---- all
 

@@ -1,5 +1,5 @@
 -- The laws of tests: what a test made of others tells. Assumes nothing.
-use mathlib.Core.Bool.{Bool, true, false, not, cond, _&&_, _||_}
+use mathlib.Core.Bool.{Bool, true, false, not, _&&_, _||_}
 use mathlib.Core.Path.{_≡_, refl, subst}
 use mathlib.Core.Logic.{_⊎_, inl, inr, ⊎-elim}
 use Prim.Native.Nat.{ℕ, zero, suc, _+_, _≤_, _<_}
@@ -12,17 +12,13 @@ use Rattle.tests.specs.Tests.{Tells, some, every}
 pub is-map : {b : Bool} {P Q : Type 0} → Tells b P → (P → Q) → (Q → P) → Tells b Q
 is-map h f g = record { to = λ t. f (h .to t); from = λ q. h .from (g q) }
 
--- a test that passes is true, one that fails is false
+-- a test that passes is true; of one that is false the statement does not hold
 pub passes : {b : Bool} → T b → b ≡ true
 passes {b = true} t = refl
 passes {b = false} t = absurd t
 
 pub passed : {b : Bool} → b ≡ true → T b
 passed e = rw e tt
-
-pub fails : {b : Bool} {P : Type 0} → Tells b P → (¬ P) → b ≡ false
-fails {b = true} h n = absurd (n (h .to tt))
-fails {b = false} h n = refl
 
 pub failed : {b : Bool} {P : Type 0} → Tells b P → b ≡ false → ¬ P
 failed h e p = subst T e (h .from p)
@@ -39,16 +35,6 @@ is-false n = record { to = λ t. absurd t; from = n }
 pub is-and : {a b : Bool} {P Q : Type 0} → Tells a P → Tells b Q → Tells (a && b) (P × Q)
 is-and {a = true} {b} h k = record { to = λ t. (h .to tt, k .to t); from = λ q. k .from (q .1) }
 is-and {a = false} {b} h k = record { to = λ t. absurd t; from = λ q. h .from (q .0) }
-
--- one test, and then another
-pub is-then : {a b : Bool} {P Q : Type 0} → Tells a P → Tells b Q → Tells (cond a b false) (P × Q)
-is-then {a = true} {b} h k = record { to = λ t. (h .to tt, k .to t); from = λ q. k .from (q .1) }
-is-then {a = false} {b} h k = record { to = λ t. absurd t; from = λ q. h .from (q .0) }
-
--- another test, unless the one passes
-pub is-unless : {a b : Bool} {P Q : Type 0} → Tells a P → Tells b Q → Tells (cond a false b) ((¬ P) × Q)
-is-unless {a = true} {b} h k = record { to = λ t. absurd t; from = λ q. q .0 (h .to tt) }
-is-unless {a = false} {b} h k = record { to = λ t. (λ p. h .from p, k .to t); from = λ q. k .from (q .1) }
 
 pub is-or : {a b : Bool} {P Q : Type 0} → Tells a P → Tells b Q → Tells (a || b) (P ⊎ Q)
 is-or {a = true} {b} h k = record { to = λ t. inl (h .to tt); from = λ q. tt }

@@ -3,7 +3,7 @@
 use borrow.Author.Needs.{needs}
 use borrow.Author.Tests.{eq-eqb, ne-eqb}
 use mathlib.Core.Path.{_≡_}
-use mathlib.Core.Bool.{Bool, true, false, cond}
+use mathlib.Core.Bool.{Bool, true, false, not, _&&_}
 use mathlib.Core.List.{List}
 use Prim.Native.Nat.{ℕ}
 use lib.Dec.{eqb}
@@ -18,8 +18,7 @@ use Rattle.table.proofs.formed.node_fits.Tie as tie
 -- the test of the bytes n and the row r, at k
 unfoldable fitsAs : List ℕ → ℕ → Raw → Row → Bool
 fitsAs s k n r =
-    cond (eqb (r .own) none) false
-    (cond (eqb (n .fourth) 0) (cond (operandFits s k (r .x) (r .limit) (n .x)) (operandFits s k (r .y) 1 (n .y)) false) false)
+    not (eqb (r .own) none) && (eqb (n .fourth) 0 && (operandFits s k (r .x) (r .limit) (n .x) && operandFits s k (r .y) 1 (n .y)))
 
 module _ (s : List ℕ) (k : ℕ) (n : Raw) (en : n ≡ rawAt s k) (r : Row) (er : r ≡ rowOf (n .op)) where
   known : nodeFits s k ≡ fitsAs s k n r
