@@ -10,7 +10,7 @@ use native.Mathlib.Nat.{le-of-suc-le-suc}
 use lib.Dec.{T, T-not, leb, eqb}
 use lib.ListN.{length}
 use Rattle.meaning.specs.Syntax.{Bexp, Seq, Prop, strong, weak, neg, either, both, implies, next, until, under, Clock, free, on}
-use Rattle.meaning.specs.Words.{Word, inside, isBot, flip, cut, NoBot, word, Tail, none, tops, bots, after}
+use Rattle.meaning.specs.Words.{real, Word, inside, isBot, flip, cut, NoBot, word, Tail, none, tops, bots, after}
 use Rattle.meaning.proofs.Cells.{alive, other}
 use Rattle.meaning.specs.Meaning.{Match, counts, ticks, Second, Strong, Sat}
 use Rattle.meaning.proofs.Order.{Below, same, to-top, match-mono, match-alive}
@@ -73,11 +73,18 @@ module _ {S : Type 0} where
   word-out (x ∷ xs) t zero l = absurd (omega arith)
   word-out (x ∷ xs) t (suc p) l = word-out xs t p (le-of-suc-le-suc l)
 
-  pub word-inside : (xs : List S) (t : Tail) (p : ℕ) → p < length xs → T (inside (word xs t p))
+  -- and there stands a sample
+  word-real : (xs : List S) (t : Tail) (p : ℕ) → p < length xs → (x : S) × (word xs t p ≡ real x)
   unfolding word
-  word-inside [] t p l = absurd (omega arith)
-  word-inside (x ∷ xs) t zero l = tt
-  word-inside (x ∷ xs) t (suc p) l = word-inside xs t p (le-of-suc-le-suc l)
+  word-real [] t p l = absurd (omega arith)
+  word-real (x ∷ xs) t zero l = (x, refl)
+  word-real (x ∷ xs) t (suc p) l = word-real xs t p (le-of-suc-le-suc l)
+
+  pub word-inside : (xs : List S) (t : Tail) (p : ℕ) → p < length xs → T (inside (word xs t p))
+  word-inside xs t p l = rw (word-real xs t p l .1) tt
+
+  pub word-not-bot : (xs : List S) (t : Tail) (p : ℕ) → p < length xs → T (not (isBot (word xs t p)))
+  word-not-bot xs t p l = rw (word-real xs t p l .1) tt
 
   -- the samples then ⊤ for ever
   abbrev pub full : List S → Word S
@@ -100,12 +107,6 @@ module _ {S : Type 0} where
   inside-span xs none p h = ⊎-elim (λ x. omega arith) (λ x. absurd (rw (word-out xs none p x) at h)) (side p (length xs))
   inside-span xs tops p h = omega arith
   inside-span xs bots p h = omega arith
-
-  pub word-not-bot : (xs : List S) (t : Tail) (p : ℕ) → p < length xs → T (not (isBot (word xs t p)))
-  unfolding word
-  word-not-bot [] t p l = absurd (omega arith)
-  word-not-bot (x ∷ xs) t zero l = tt
-  word-not-bot (x ∷ xs) t (suc p) l = word-not-bot xs t p (le-of-suc-le-suc l)
 
   pub no-bot : (xs : List S) (t : Tail) (i : ℕ) → T (not (botted t)) → NoBot (word xs t) i
   unfolding NoBot

@@ -1,6 +1,6 @@
 -- A set of places as a number: which places it has, and the words that the contracts are written in. Assumes nothing.
 use mathlib.Core.Path.{_≡_}
-use mathlib.Core.Bool.{Bool, true, false, _||_, cond}
+use mathlib.Core.Bool.{Bool, true, false, cond}
 use Prim.Native.Nat.{ℕ, zero, suc, _+_, _*_, _/_, _%_, _^_, _≤_, _<_}
 use lib.Dec.{eqb}
 
@@ -11,11 +11,6 @@ has x k = eqb (x / 2 ^ k % 2) 1
 -- x has exactly the places that pass the test f. No second number fits (`proofs/Laws.antt`, `unique`)
 abbrev pub Is : ℕ → (ℕ → Bool) → Type 0
 Is x f = (k : ℕ) → has x k ≡ f k
-
--- some place below n passes the test f
-unfoldable pub some : ℕ → (ℕ → Bool) → Bool
-some zero f = false
-some (suc n) f = some n f || f n
 
 -- the number whose places are those below w that pass the test f
 unfoldable pub collect : ℕ → (ℕ → Bool) → ℕ

@@ -4,7 +4,8 @@ ghost use mathlib.Core.Path.{_≡_};
 ghost use mathlib.Core.Bool.{false, not, _||_, _&&_};
 ghost use Prim.Native.Nat.{ℕ, suc, _-_, _≤_, _<_};
 ghost use lib.Dec.{eqb, leb, ltb};
-ghost use Rattle.positions.specs.Member.{has, Is, some, Lowest};
+ghost use Rattle.tests.specs.Tests.{some};
+ghost use Rattle.positions.specs.Member.{has, Is, Lowest};
 
 pub struct PositionSet {
     pub bits: u64,
@@ -126,7 +127,7 @@ impl PositionSet {
 
     // Whether the set has no place.
     pub fn is_empty(self) -> bool
-        ensures { λ r. ⌜ r ≡ not (some 64 (has (self .bits))) ⌝ }
+        ensures { λ r. ⌜ r ≡ not (some (has (self .bits)) 0 64) ⌝ }
     {
         self.bits == 0
     }

@@ -1,4 +1,4 @@
--- What is computed in Cases.antt is what First.antt says, and nothing else is: from tests that decide the refusals, one by one.
+-- What is computed in Computed.antt is what First.antt says, and nothing else is: from tests that decide the refusals, one by one.
 -- Assumes nothing.
 use borrow.Author.Tests.{ltb-true, ltb-false, lt-ltb}
 use mathlib.Core.Path.{_≡_, refl, _∙_, sym}

@@ -61,10 +61,11 @@ pub heading-refuses : (letter : ℕ) (s : List ℕ) → T (refuses (headingCases
 unfolding headingCases
 heading-refuses letter s = tt
 
--- what follows the tests of the heading, from what they answer
+-- what the tests answer is the first that applies
 pub heading-answers : (letter : ℕ) (s : List ℕ) (v : Verdict) → v ≡ firstCase (headingCases letter s) → Answers (headingRefusals letter s) v
 heading-answers letter s v e = subst (Answers (headingRefusals letter s)) (sym e) (answers (headingCases letter s) (headingRefusals letter s) (decides-heading letter s))
 
+-- and what follows them, from that answer
 module _ (letter : ℕ) (s : List ℕ) (v : Verdict) (a : Answers (headingRefusals letter s) v) where
   pub heading-only : v ≡ firstCase (headingCases letter s)
   heading-only = only (headingCases letter s) (headingRefusals letter s) (decides-heading letter s) v a

@@ -79,7 +79,7 @@ module _ (s : List ℕ) (v : Verdict) (c : Checks s v) (z : v .number ≡ 0) whe
   clocked-sort (c-part {p = p} {k = k} c a) =
       let h = part-sort s k (ok .fit p (clock-inside s (ok .some) (ok .fit) (ok .once) c)) a in λ e. omega arith
 
-  -- and its clocks are as the page says: a node's tree is read under the condition of the nearest clock node above the node, if any
+  -- and its clocks are as the page says: each node's tree occurs in the root's, read there under the node's clock
   pub clocks-as-read : (t : Tree ℕ) → TreeAt (nodeAt s) (root s) t → (k : ℕ) (ρ : Ref) (κ : Clock ℕ) (q : Tree ℕ)
       → ClockOf s k ρ → ClockAt (nodeAt s) ρ κ → TreeAt (nodeAt s) k q → Within free t κ q
   clocks-as-read t d k ρ κ q c e f =

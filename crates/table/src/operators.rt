@@ -156,7 +156,7 @@ pub fn wide(x: u8) -> usize
     x as usize
 }
 
-// The row of an operator. (A match, since a constant array would be built anew on the stack at each use.)
+// The row of an operator.
 pub fn row_of(op: u8) -> Row
     ensures { λ r. ⌜ r ≡ rowOf op ⌝ }
 {

@@ -40,6 +40,7 @@ fn tops_at(done: [Tops; 120], k: usize, x: usize) -> Tops
     if x < k { done[x] } else { NOTHING }
 }
 
+// Of ##1: a match of a and then one of b, either part possibly empty.
 fn then_tops(a: Tops, b: Tops) -> Tops
     ensures { λ r. ⌜ r ≡ thenTops a b ⌝ }
 {
@@ -49,6 +50,7 @@ fn then_tops(a: Tops, b: Tops) -> Tops
     }
 }
 
+// Of ##0: two matches that share one letter.
 fn fused_tops(a: Tops, b: Tops) -> Tops
     ensures { λ r. ⌜ r ≡ fusedTops a b ⌝ }
 {
@@ -58,6 +60,7 @@ fn fused_tops(a: Tops, b: Tops) -> Tops
     }
 }
 
+// Of or.
 fn either_tops(a: Tops, b: Tops) -> Tops
     ensures { λ r. ⌜ r ≡ eitherTops a b ⌝ }
 {
@@ -67,6 +70,7 @@ fn either_tops(a: Tops, b: Tops) -> Tops
     }
 }
 
+// Of a sequence, by its kind.
 fn sequence_tops(done: [Tops; 120], k: usize, q: SequenceOp) -> Tops
     requires { ⌜ k ≤ 120 ⌝ }
     ensures { λ r. ⌜ r ≡ sequenceTops (take k done) q ⌝ }
@@ -112,6 +116,7 @@ fn hollow_property(done: [Tops; 120], k: usize, p: PropertyOp) -> bool
     }
 }
 
+// Whether the node is one of those: booleans and sequences ask for nothing.
 fn is_hollow(done: [Tops; 120], k: usize, v: Node) -> bool
     requires { ⌜ k ≤ 120 ⌝ }
     ensures { λ r. ⌜ r ≡ hollowNode (take k done) v ⌝ }

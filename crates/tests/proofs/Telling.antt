@@ -12,13 +12,17 @@ use Rattle.tests.specs.Tests.{Tells, some, every}
 pub is-map : {b : Bool} {P Q : Type 0} → Tells b P → (P → Q) → (Q → P) → Tells b Q
 is-map h f g = record { to = λ t. f (h .to t); from = λ q. h .from (g q) }
 
--- a test that passes is true; of one that is false the statement does not hold
+-- a test that passes is true, and one that fails is false
 pub passes : {b : Bool} → T b → b ≡ true
 passes {b = true} t = refl
 passes {b = false} t = absurd t
 
 pub passed : {b : Bool} → b ≡ true → T b
 passed e = rw e tt
+
+pub fails : {b : Bool} {P : Type 0} → Tells b P → (¬ P) → b ≡ false
+fails {b = true} h n = absurd (n (h .to tt))
+fails {b = false} h n = refl
 
 pub failed : {b : Bool} {P : Type 0} → Tells b P → b ≡ false → ¬ P
 failed h e p = subst T e (h .from p)

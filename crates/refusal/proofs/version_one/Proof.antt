@@ -1,3 +1,4 @@
+-- `refusal::version_one` meets its contract. Assumes nothing.
 use Rattle.refusal.specs.Computed.{isVersionOne}
 use borrow.Author.Tests.{eq-eqb, ne-eqb}
 use borrow.Author.Needs.{needs}

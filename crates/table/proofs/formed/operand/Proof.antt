@@ -1,3 +1,4 @@
+-- `table::formed::operand` meets its contract. Assumes nothing.
 use Rattle.table.specs.Computed.{operandFits}
 use borrow.Author.Tests.{eq-eqb, ne-eqb, lt-ltb, le-ltb}
 use borrow.Author.Needs.{needs}

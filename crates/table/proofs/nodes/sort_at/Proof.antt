@@ -1,3 +1,4 @@
+-- `table::nodes::sort_at` meets its contract. Assumes nothing.
 use Rattle.table.specs.Nodes.{sortAt}
 use borrow.Author.Needs.{needs}
 use Rattle.table.proofs.nodes.sort_at.Statement.{statement}

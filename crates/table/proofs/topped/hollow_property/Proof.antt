@@ -1,3 +1,4 @@
+-- `table::topped::hollow_property` meets its contract. Assumes nothing.
 use Rattle.table.specs.Flags.{hollowProperty}
 use Rattle.table.specs.declared.topped.Tops.{Tops}
 use mathlib.Core.Bool.{not}

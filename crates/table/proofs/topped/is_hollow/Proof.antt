@@ -1,3 +1,4 @@
+-- `table::topped::is_hollow` meets its contract. Assumes nothing.
 use Rattle.table.specs.Flags.{hollowNode}
 use borrow.Author.Needs.{needs}
 use Rattle.table.proofs.topped.is_hollow.Statement.{statement}

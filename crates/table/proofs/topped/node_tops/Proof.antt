@@ -1,3 +1,4 @@
+-- `table::topped::node_tops` meets its contract. Assumes nothing.
 use Rattle.table.specs.Flags.{nodeTops}
 use borrow.Author.Needs.{needs}
 use Rattle.table.proofs.topped.node_tops.Statement.{statement}

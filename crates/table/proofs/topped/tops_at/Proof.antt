@@ -1,3 +1,4 @@
+-- `table::topped::tops_at` meets its contract. Assumes nothing.
 use mathlib.Core.Path.{sym}
 use native.Mathlib.Omega.{arith}
 use lib.ListN.{List·getD-eq-default, length-take, length, take}
