@@ -73,14 +73,15 @@ module _ (s : List ℕ) (j x y : ℕ) (uses : List ℕ) (long : length uses ≡ 
       go false true e = let h = b k in omega arith
       go false false e = let h = b k in omega arith
 
-zeros : (n k : ℕ) → _≡_ {A = ℕ} (getD (replicate n 0) k 0) 0
-zeros zero k = refl
-zeros (suc n) zero = refl
-zeros (suc n) (suc k) = zeros n k
+-- an array filled with its default
+pub filled : {A : Type 0} (a : A) (n k : ℕ) → getD (replicate n a) k a ≡ a
+filled a zero k = refl
+filled a (suc n) zero = refl
+filled a (suc n) (suc k) = filled a n k
 
 pub nothing-counted : (s : List ℕ) → Counted s 0 (replicate 121 0)
 unfolding Counted usesOf
-nothing-counted s k l = zeros 121 k
+nothing-counted s k l = filled 0 121 k
 
 pub nothing-over : (k : ℕ) → getD (replicate 121 0) k 0 ≤ 2 * 0
-nothing-over k = omega (arith, zeros 121 k)
+nothing-over k = omega (arith, filled {A = ℕ} 0 121 k)

@@ -7,6 +7,7 @@ pub mod Shapes
 pub mod Reading
 pub mod Standing
 pub mod Topping
+pub mod Keeping
 pub mod Placing
 pub mod Clocking
 pub mod Within

@@ -23,21 +23,29 @@ use Rattle.table.specs.declared.nodes.Node.{Node}
 use Rattle.table.specs.declared.nodes.Node.the-variants.{Boolean, Sequence, Property}
 use Rattle.table.specs.declared.nodes.PropertyOp.the-variants.{Strong, Weak, Negated, AnyOf, BothOf, Implies, Next, Until, Ticked}
 use Rattle.table.specs.declared.topped.Tops.{Tops}
-use Rattle.table.specs.Operators.{sequence}
-use Rattle.table.specs.Nodes.{sortAt, nodeAt, WellFormed}
+use Rattle.table.specs.declared.nodes.Raw.{Raw}
+use Rattle.table.specs.Operators.{sequence, bytesOf, sequenceBytes, propertyBytes}
+use Rattle.table.specs.Nodes.{rawAt, sortAt, nodeAt, WellFormed}
 use Rattle.table.specs.Trees.{SequenceAt, s-one, s-cat, s-fuse, s-alt, s-empty, s-plus, s-clock, PropertyAt, p-strong, p-weak, p-neg, p-either, p-both, p-imp, p-next, p-until, p-clock}
 use Rattle.table.specs.Check.{Asks, by-strong, by-weak, by-implies}
 use Rattle.table.specs.Flags.{flags, nothing, topsAt, thenTops, sequenceTops, nodeTops, topsBelow, hollowProperty, hollowNode, hollow}
+use Rattle.table.proofs.Forming.{coded-at}
 use Rattle.table.proofs.Shapes.{down}
 
 -- ---- the flags of each node, from those of the nodes below
 
 module _ (s : List ℕ) where
-  -- the flags of node k
-  abbrev pub flagsAt : ℕ → Tops
-  flagsAt k = nodeTops (topsBelow s k) (nodeAt s k)
+  -- what is known of the operands of node k, and of the node
+  abbrev pub ofX : ℕ → Tops
+  ofX k = topsAt (topsBelow s k) (rawAt s k .x)
 
-  long : (n : ℕ) → length (topsBelow s n) ≡ n
+  abbrev pub ofY : ℕ → Tops
+  ofY k = topsAt (topsBelow s k) (rawAt s k .y)
+
+  abbrev pub flagsAt : ℕ → Tops
+  flagsAt k = nodeTops (nodeAt s k) (ofX k) (ofY k)
+
+  pub long : (n : ℕ) → length (topsBelow s n) ≡ n
   unfolding topsBelow
   long zero = refl
   long (suc n) = length-append (topsBelow s n) (flagsAt n ∷ []) ∙ (let e = long n in omega arith)
@@ -49,6 +57,17 @@ module _ (s : List ℕ) where
       ⊎-elim (λ e. rw e (getD-at (topsBelow s n) (flagsAt n) [] nothing n (long n)))
       (λ l. List·getD-append (topsBelow s n) (flagsAt n ∷ []) nothing k (rw (long n) l) ∙ at n k l)
       (eq-or-lt-of-le (le-of-suc-le-suc h))
+
+  -- the operands of a node of a known kind
+  module _ {k : ℕ} {v : Node} (w : WellFormed s k) (e : nodeAt s k ≡ v) where
+    raw-is : rawAt s k ≡ bytesOf v
+    raw-is = sym (coded-at s k w) ∙ ap bytesOf e
+
+    x-flags : bytesOf v .x < k → ofX k ≡ flagsAt (bytesOf v .x)
+    x-flags l = ap (λ (r : Raw). topsAt (topsBelow s k) (r .x)) raw-is ∙ at k (bytesOf v .x) l
+
+    y-flags : bytesOf v .y < k → ofY k ≡ flagsAt (bytesOf v .y)
+    y-flags l = ap (λ (r : Raw). topsAt (topsBelow s k) (r .y)) raw-is ∙ at k (bytesOf v .y) l
 
 -- ---- the tests of matching, of letters ⊤ alone
 
@@ -68,25 +87,25 @@ repeat-same a = λ i. flags (a .empty) (go (a .empty) (a .some) i)
 
 module _ (s : List ℕ) (n : ℕ) (fit : (k : ℕ) → k < n → WellFormed s k) where
   tested : {k : ℕ} {r : Seq ℕ} → SequenceAt (nodeAt s) k r → k < n → (κ : Clock ℕ) → flagsAt s k ≡ Tested κ r
-  unfolding matchB topB plusB some every nodeTops sequenceTops
+  unfolding matchB topB plusB some every nodeTops sequenceTops bytesOf sequenceBytes
   tested (s-one e d) h free = rw e
   tested (s-one e d) h (on c) = rw e
-  tested {k} (s-cat {x = x} {y = y} {r = a} {s = b} e d f) h κ =
+  tested {k} (s-cat {r = a} {s = b} e d f) h κ =
       let (g, j) = down s k (fit k h) e in
-      rw (e, at s k x (g .0), at s k y (j .0), tested d (omega arith) κ, tested f (omega arith) κ) (then-same (Tested κ a) (Tested κ b))
-  tested {k} (s-fuse {x = x} {y = y} e d f) h κ =
+      rw (x-flags s (fit k h) e (g .0), y-flags s (fit k h) e (j .0), e, tested d (omega arith) κ, tested f (omega arith) κ) (then-same (Tested κ a) (Tested κ b))
+  tested {k} (s-fuse e d f) h κ =
       let (g, j) = down s k (fit k h) e in
-      rw (e, at s k x (g .0), at s k y (j .0), tested d (omega arith) κ, tested f (omega arith) κ)
-  tested {k} (s-alt {x = x} {y = y} e d f) h κ =
+      rw (x-flags s (fit k h) e (g .0), y-flags s (fit k h) e (j .0), e, tested d (omega arith) κ, tested f (omega arith) κ)
+  tested {k} (s-alt e d f) h κ =
       let (g, j) = down s k (fit k h) e in
-      rw (e, at s k x (g .0), at s k y (j .0), tested d (omega arith) κ, tested f (omega arith) κ)
+      rw (x-flags s (fit k h) e (g .0), y-flags s (fit k h) e (j .0), e, tested d (omega arith) κ, tested f (omega arith) κ)
   tested (s-empty e d) h κ = rw e
-  tested {k} (s-plus {x = x} {r = a} e d) h κ =
+  tested {k} (s-plus {r = a} e d) h κ =
       let g = down s k (fit k h) e in
-      rw (e, at s k x (g .0), tested d (omega arith) κ) (repeat-same (Tested κ a))
-  tested {k} (s-clock {x = x} {b = b} e c d) h κ =
+      rw (x-flags s (fit k h) e (g .0), e, tested d (omega arith) κ) (repeat-same (Tested κ a))
+  tested {k} (s-clock {b = b} e c d) h κ =
       let (g, j) = down s k (fit k h) e in
-      rw (e, at s k x (j .0)) (tested d (omega arith) (on b))
+      rw (y-flags s (fit k h) e (j .0), e) (tested d (omega arith) (on b))
 
   topped-tells : {k : ℕ} {r : Seq ℕ} → SequenceAt (nodeAt s) k r → k < n → (κ : Clock ℕ) → Tells (flagsAt s k .some) (Topped signal κ r)
   unfolding toppedB
@@ -95,15 +114,14 @@ module _ (s : List ℕ) (n : ℕ) (fit : (k : ℕ) → k < n → WellFormed s k)
   -- ---- what a node asks of its sequence
 
   module _ (k : ℕ) (h : k < n) where
-    pub asked : {v : Node} {x : ℕ} → Asks v x → nodeAt s k ≡ v → (hollowNode (topsBelow s k) v ≡ not (flagsAt s x .some)) × (x < k) × (sortAt s x ≡ sequence)
-    unfolding hollowNode hollowProperty
-    asked (by-strong {x = x}) e = let g = down s k (fit k h) e in (rw (at s k x (g .0)), g .0, g .1)
-    asked (by-weak {x = x}) e = let g = down s k (fit k h) e in (rw (at s k x (g .0)), g .0, g .1)
-    asked (by-implies {x = x}) e = let (g, j) = down s k (fit k h) e in (rw (at s k x (g .0)), g .0, g .1)
+    pub asked : {v : Node} {x : ℕ} → Asks v x → nodeAt s k ≡ v → (hollow s k ≡ not (flagsAt s x .some)) × (x < k) × (sortAt s x ≡ sequence)
+    unfolding hollow hollowNode hollowProperty bytesOf propertyBytes
+    asked by-strong e = let g = down s k (fit k h) e in (rw (x-flags s (fit k h) e (g .0), e), g .0, g .1)
+    asked by-weak e = let g = down s k (fit k h) e in (rw (x-flags s (fit k h) e (g .0), e), g .0, g .1)
+    asked by-implies e = let (g, j) = down s k (fit k h) e in (rw (x-flags s (fit k h) e (g .0), e), g .0, g .1)
 
     -- the node is hollow exactly if that sequence is not topped, whatever the clock
     pub hollow-tells : {x : ℕ} {r : Seq ℕ} → Asks (nodeAt s k) x → SequenceAt (nodeAt s) x r → (κ : Clock ℕ) → Tells (hollow s k) (¬ Topped signal κ r)
-    unfolding hollow
     hollow-tells {r = r} a d κ =
         let (e, l, z) = asked a refl in
         subst (λ (b : Bool). Tells b (¬ Topped signal κ r)) (sym e) (is-not (topped-tells d (omega arith) κ))
@@ -113,7 +131,7 @@ module _ (s : List ℕ) (n : ℕ) (fit : (k : ℕ) → k < n → WellFormed s k)
     unfolding hollow hollowNode hollowProperty
     asks = go (nodeAt s k)
       where
-        go : (v : Node) → T (hollowNode (topsBelow s k) v) → (x : ℕ) × Asks v x
+        go : (v : Node) → T (hollowNode v (ofX s k)) → (x : ℕ) × Asks v x
         go (Boolean o) t = absurd t
         go (Sequence o) t = absurd t
         go (Property (Strong x)) t = (x, by-strong)
@@ -131,10 +149,9 @@ module _ (s : List ℕ) (n : ℕ) (fit : (k : ℕ) → k < n → WellFormed s k)
   module _ (solid : (k : ℕ) → k < n → hollow s k ≡ false) where
     -- the test of a sequence that is asked for passes
     asked-topped : {k x : ℕ} {v : Node} {r : Seq ℕ} → k < n → nodeAt s k ≡ v → Asks v x → SequenceAt (nodeAt s) x r → (κ : Clock ℕ) → Topped signal κ r
-    unfolding hollow
     asked-topped {k} {x} h e a d κ =
         let (f, l, z) = asked k h a e in
-        topped-tells d (omega arith) κ .to (passed (not-false (flagsAt s x .some) (sym f ∙ ap (hollowNode (topsBelow s k)) (sym e) ∙ solid k h)))
+        topped-tells d (omega arith) κ .to (passed (not-false (flagsAt s x .some) (sym f ∙ solid k h)))
 
     pub accepted-at : {k : ℕ} {P : Prop ℕ} → PropertyAt (nodeAt s) k P → k < n → (κ : Clock ℕ) → Accepted signal κ P
     unfolding Accepted

@@ -40,6 +40,12 @@ Counted s n uses = (k : ℕ) → k < 120 → getD uses k 0 ≡ usesOf s k n
 unfoldable pub astray : List ℕ → ℕ → ℕ → Bool
 astray s n k = not (ltb (sortAt s k) sequence) && (not (eqb (k + 1) n) && not (eqb (usesOf s k n) 1))
 
+-- ---- 9
+
+-- where the flags of the operand byte v are kept
+unfoldable pub keptAt : ℕ → ℕ
+keptAt v = cond (ltb v 120) v 120
+
 -- ---- all
 
 unfoldable pub nodeCases : List ℕ → ℕ → List Case

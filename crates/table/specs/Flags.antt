@@ -12,7 +12,7 @@ use Rattle.table.specs.declared.nodes.SequenceOp.{SequenceOp}
 use Rattle.table.specs.declared.nodes.SequenceOp.the-variants.{Letter, Then, Fused, Either, Empty, Repeat, Clocked}
 use Rattle.table.specs.declared.nodes.PropertyOp.{PropertyOp}
 use Rattle.table.specs.declared.nodes.PropertyOp.the-variants.{Strong, Weak, Negated, AnyOf, BothOf, Implies, Next, Until, Ticked}
-use Rattle.table.specs.Nodes.{nodeAt}
+use Rattle.table.specs.Nodes.{rawAt, nodeAt}
 
 -- whether the sequence matches no letter, and whether it matches k letters ⊤ for some k of at least 1
 abbrev pub flags : Bool → Bool → Tops
@@ -34,42 +34,43 @@ fusedTops a b = flags false (a .some && b .some)
 abbrev pub eitherTops : Tops → Tops → Tops
 eitherTops a b = flags (a .empty || b .empty) (a .some || b .some)
 
--- by the rule of each sequence, from what is known of the nodes below
-unfoldable pub sequenceTops : List Tops → SequenceOp → Tops
-sequenceTops done (Letter b) = flags false true
-sequenceTops done (Then x y) = thenTops (topsAt done x) (topsAt done y)
-sequenceTops done (Fused x y) = fusedTops (topsAt done x) (topsAt done y)
-sequenceTops done (Either x y) = eitherTops (topsAt done x) (topsAt done y)
-sequenceTops done (Empty x) = flags true false
-sequenceTops done (Repeat x) = topsAt done x
-sequenceTops done (Clocked c x) = topsAt done x
+-- by the rule of each sequence, from the flags of its operands x and y
+unfoldable pub sequenceTops : SequenceOp → Tops → Tops → Tops
+sequenceTops (Letter b) x y = flags false true
+sequenceTops (Then i j) x y = thenTops x y
+sequenceTops (Fused i j) x y = fusedTops x y
+sequenceTops (Either i j) x y = eitherTops x y
+sequenceTops (Empty i) x y = flags true false
+sequenceTops (Repeat i) x y = x
+sequenceTops (Clocked c j) x y = y
 
-unfoldable pub nodeTops : List Tops → Node → Tops
-nodeTops done (Boolean b) = nothing
-nodeTops done (Sequence q) = sequenceTops done q
-nodeTops done (Property p) = nothing
+unfoldable pub nodeTops : Node → Tops → Tops → Tops
+nodeTops (Boolean o) x y = nothing
+nodeTops (Sequence o) x y = sequenceTops o x y
+nodeTops (Property o) x y = nothing
 
 -- of each of the nodes below k, in their order
 unfoldable pub topsBelow : List ℕ → ℕ → List Tops
 topsBelow s zero = []
-topsBelow s (suc k) = topsBelow s k ++ (nodeTops (topsBelow s k) (nodeAt s k) ∷ [])
+topsBelow s (suc k) =
+    topsBelow s k ++ (nodeTops (nodeAt s k) (topsAt (topsBelow s k) (rawAt s k .x)) (topsAt (topsBelow s k) (rawAt s k .y)) ∷ [])
 
--- strong, weak and `|->` ask for a match of one or more letters
-unfoldable pub hollowProperty : List Tops → PropertyOp → Bool
-hollowProperty done (Strong x) = not (topsAt done x .some)
-hollowProperty done (Weak x) = not (topsAt done x .some)
-hollowProperty done (Negated x) = false
-hollowProperty done (AnyOf x y) = false
-hollowProperty done (BothOf x y) = false
-hollowProperty done (Implies x y) = not (topsAt done x .some)
-hollowProperty done (Next x) = false
-hollowProperty done (Until x y) = false
-hollowProperty done (Ticked c x) = false
+-- strong, weak and `|->` ask for a match of one or more letters, of their operand x
+unfoldable pub hollowProperty : PropertyOp → Tops → Bool
+hollowProperty (Strong i) x = not (x .some)
+hollowProperty (Weak i) x = not (x .some)
+hollowProperty (Negated i) x = false
+hollowProperty (AnyOf i j) x = false
+hollowProperty (BothOf i j) x = false
+hollowProperty (Implies i j) x = not (x .some)
+hollowProperty (Next i) x = false
+hollowProperty (Until i j) x = false
+hollowProperty (Ticked c j) x = false
 
-unfoldable pub hollowNode : List Tops → Node → Bool
-hollowNode done (Boolean b) = false
-hollowNode done (Sequence q) = false
-hollowNode done (Property p) = hollowProperty done p
+unfoldable pub hollowNode : Node → Tops → Bool
+hollowNode (Boolean o) x = false
+hollowNode (Sequence o) x = false
+hollowNode (Property o) x = hollowProperty o x
 
 unfoldable pub hollow : List ℕ → ℕ → Bool
-hollow s k = hollowNode (topsBelow s k) (nodeAt s k)
+hollow s k = hollowNode (nodeAt s k) (topsAt (topsBelow s k) (rawAt s k .x))

@@ -5,11 +5,13 @@ use crate::nodes::PropertyOp;
 use crate::nodes::SequenceOp;
 use crate::nodes::decode;
 use crate::nodes::node_at;
+use crate::operators::wide;
 ghost use mathlib.Core.Path.{_≡_};
 ghost use Prim.Native.Nat.{_+_, _*_, _≤_};
-ghost use lib.ListN.{length, take};
+ghost use lib.ListN.{length};
 ghost use Rattle.refusal.specs.Computed.{first};
-ghost use Rattle.table.specs.Flags.{topsAt, thenTops, fusedTops, eitherTops, sequenceTops, nodeTops, hollowProperty, hollowNode, hollow};
+ghost use Rattle.table.specs.Flags.{thenTops, fusedTops, eitherTops, sequenceTops, nodeTops, hollowProperty, hollowNode, hollow};
+ghost use Rattle.table.specs.Computed.{keptAt};
 
 // What a sequence matches of a word of letters ⊤ alone: no letter; some letters, one or more.
 pub struct Tops {
@@ -31,14 +33,6 @@ const NO_LETTER: Tops = Tops {
     empty: true,
     some: false,
 };
-
-// Of the operand x, where the k nodes below are done.
-fn tops_at(done: [Tops; 120], k: usize, x: usize) -> Tops
-    requires { ⌜ k ≤ 120 ⌝ }
-    ensures { λ r. ⌜ r ≡ topsAt (take k done) x ⌝ }
-{
-    if x < k { done[x] } else { NOTHING }
-}
 
 // Of ##1: a match of a and then one of b, either part possibly empty.
 fn then_tops(a: Tops, b: Tops) -> Tops
@@ -70,62 +64,67 @@ fn either_tops(a: Tops, b: Tops) -> Tops
     }
 }
 
-// Of a sequence, by its kind.
-fn sequence_tops(done: [Tops; 120], k: usize, q: SequenceOp) -> Tops
-    requires { ⌜ k ≤ 120 ⌝ }
-    ensures { λ r. ⌜ r ≡ sequenceTops (take k done) q ⌝ }
+// Of a sequence, by its kind and what its operands x and y match.
+fn sequence_tops(q: SequenceOp, x: Tops, y: Tops) -> Tops
+    ensures { λ r. ⌜ r ≡ sequenceTops q x y ⌝ }
 {
     match q {
         SequenceOp::Letter(_) => A_LETTER,
-        SequenceOp::Then(x, y) => then_tops(tops_at(done, k, x), tops_at(done, k, y)),
-        SequenceOp::Fused(x, y) => fused_tops(tops_at(done, k, x), tops_at(done, k, y)),
-        SequenceOp::Either(x, y) => either_tops(tops_at(done, k, x), tops_at(done, k, y)),
+        SequenceOp::Then(_, _) => then_tops(x, y),
+        SequenceOp::Fused(_, _) => fused_tops(x, y),
+        SequenceOp::Either(_, _) => either_tops(x, y),
         SequenceOp::Empty(_) => NO_LETTER,
-        SequenceOp::Repeat(x) => tops_at(done, k, x),
-        SequenceOp::Clocked(_, x) => tops_at(done, k, x),
+        SequenceOp::Repeat(_) => x,
+        SequenceOp::Clocked(_, _) => y,
     }
 }
 
 // Booleans and properties match nothing.
-fn node_tops(done: [Tops; 120], k: usize, v: Node) -> Tops
-    requires { ⌜ k ≤ 120 ⌝ }
-    ensures { λ r. ⌜ r ≡ nodeTops (take k done) v ⌝ }
+fn node_tops(v: Node, x: Tops, y: Tops) -> Tops
+    ensures { λ r. ⌜ r ≡ nodeTops v x y ⌝ }
 {
     match v {
         Node::Boolean(_) => NOTHING,
-        Node::Sequence(q) => sequence_tops(done, k, q),
+        Node::Sequence(q) => sequence_tops(q, x, y),
         Node::Property(_) => NOTHING,
     }
 }
 
-// Whether the node asks for a match of a sequence that matches no letters ⊤.
-fn hollow_property(done: [Tops; 120], k: usize, p: PropertyOp) -> bool
-    requires { ⌜ k ≤ 120 ⌝ }
-    ensures { λ r. ⌜ r ≡ hollowProperty (take k done) p ⌝ }
+// Whether the node asks for a match of its operand x, which matches no letters ⊤.
+fn hollow_property(p: PropertyOp, x: Tops) -> bool
+    ensures { λ r. ⌜ r ≡ hollowProperty p x ⌝ }
 {
     match p {
-        PropertyOp::Strong(x) => !tops_at(done, k, x).some,
-        PropertyOp::Weak(x) => !tops_at(done, k, x).some,
+        PropertyOp::Strong(_) => !x.some,
+        PropertyOp::Weak(_) => !x.some,
         PropertyOp::Negated(_) => false,
         PropertyOp::AnyOf(_, _) => false,
         PropertyOp::BothOf(_, _) => false,
-        PropertyOp::Implies(x, _) => !tops_at(done, k, x).some,
+        PropertyOp::Implies(_, _) => !x.some,
         PropertyOp::Next(_) => false,
         PropertyOp::Until(_, _) => false,
         PropertyOp::Ticked(_, _) => false,
     }
 }
 
-// Whether the node is one of those: booleans and sequences ask for nothing.
-fn is_hollow(done: [Tops; 120], k: usize, v: Node) -> bool
-    requires { ⌜ k ≤ 120 ⌝ }
-    ensures { λ r. ⌜ r ≡ hollowNode (take k done) v ⌝ }
+// Booleans and sequences ask for nothing.
+fn is_hollow(v: Node, x: Tops) -> bool
+    ensures { λ r. ⌜ r ≡ hollowNode v x ⌝ }
 {
     match v {
         Node::Boolean(_) => false,
         Node::Sequence(_) => false,
-        Node::Property(p) => hollow_property(done, k, p),
+        Node::Property(p) => hollow_property(p, x),
     }
+}
+
+// Where the flags of the operand byte v are kept; past all nodes, where nothing ever is, if it names none.
+fn kept_at(v: u8) -> usize
+    ensures { λ r. ⌜ r ≡ keptAt v ⌝ }
+    ensures { λ r. ⌜ r ≤ 120 ⌝ }
+{
+    let i = wide(v);
+    if i < 120 { i } else { 120 }
 }
 
 // The lowest such node below n, or n: one pass, with the flags of the nodes below.
@@ -133,14 +132,17 @@ pub fn first_hollow(b: &[u8], n: usize) -> usize
     requires { ⌜ (n ≤ 120) × (4 * n + 6 ≤ length (now b)) ⌝ }
     ensures { λ r. ⌜ r ≡ first (hollow (now (b .entry))) 0 n ⌝ }
 {
-    let mut done = [NOTHING; 120];
+    let mut done = [NOTHING; 121];
     let mut k: usize = 0;
     while k < n {
-        let v = decode(node_at(b, k));
-        if is_hollow(done, k, v) {
+        let raw = node_at(b, k);
+        let v = decode(raw);
+        let x = done[kept_at(raw.x)];
+        let y = done[kept_at(raw.y)];
+        if is_hollow(v, x) {
             return k;
         }
-        done[k] = node_tops(done, k, v);
+        done[k] = node_tops(v, x, y);
         k = k + 1;
     }
     n

@@ -1,9 +1,6 @@
 -- `table::topped::hollow_property` meets its contract. Assumes nothing.
-use Rattle.table.specs.Flags.{hollowProperty}
-use Rattle.table.specs.declared.topped.Tops.{Tops}
-use mathlib.Core.Bool.{not}
-use mathlib.Core.Path.{ap}
 use borrow.Author.Needs.{needs}
+use Rattle.table.specs.Flags.{hollowProperty}
 use Rattle.table.proofs.topped.hollow_property.Statement.{statement}
 use Rattle.table.proofs.topped.hollow_property.Tie as tie
 
@@ -13,23 +10,20 @@ hollow-property-spec =
     tie.close
     (tie.spec
     (λ c. search needs)
-    (λ c κs. search needs)
-    (λ c. search needs)
-    (λ c κs. search needs)
     (λ c. search needs)
     (λ c. search needs)
     (λ c. search needs)
     (λ c. search needs)
-    (λ c κs. search needs)
     (λ c. search needs)
     (λ c. search needs)
     (λ c. search needs)
-    (λ c. rw (c .before .before .before .p .given .1) (ap (λ (t : Tops). not (t .some)) (c .before .tops-at .ensures)))
-    (λ c. rw (c .before .before .before .p2 .given .1) (ap (λ (t : Tops). not (t .some)) (c .before .tops-at2 .ensures)))
-    (λ c. rw (c .enum-told .given .1))
-    (λ c. rw (c .enum-told2 .given .1))
+    (λ c. search needs)
+    (λ c. rw (c .before .enum-told .given .1))
+    (λ c. rw (c .before .enum-told2 .given .1))
     (λ c. rw (c .enum-told3 .given .1))
-    (λ c. rw (c .before .before .before .p3 .given .1) (ap (λ (t : Tops). not (t .some)) (c .before .tops-at3 .ensures)))
     (λ c. rw (c .enum-told4 .given .1))
     (λ c. rw (c .enum-told5 .given .1))
-    (λ c. rw (c .enum-told6 .given .1)))
+    (λ c. rw (c .before .enum-told6 .given .1))
+    (λ c. rw (c .enum-told7 .given .1))
+    (λ c. rw (c .enum-told8 .given .1))
+    (λ c. rw (c .enum-told9 .given .1)))

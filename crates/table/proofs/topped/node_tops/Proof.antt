@@ -1,6 +1,6 @@
 -- `table::topped::node_tops` meets its contract. Assumes nothing.
-use Rattle.table.specs.Flags.{nodeTops}
 use borrow.Author.Needs.{needs}
+use Rattle.table.specs.Flags.{nodeTops}
 use Rattle.table.proofs.topped.node_tops.Statement.{statement}
 use Rattle.table.proofs.topped.node_tops.Tie as tie
 

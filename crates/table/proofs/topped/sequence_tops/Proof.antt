@@ -1,46 +1,43 @@
--- `table::topped::sequence_tops` meets its contract: a law for each arm, and `search` finds its facts.
--- Assumes nothing.
+-- `table::topped::sequence_tops` meets its contract: one law an arm, and `search` finds its facts. Assumes nothing.
 use borrow.Author.Needs.{needs}
 use mathlib.Core.Path.{_≡_}
 use mathlib.Core.Bool.{true, false}
-use mathlib.Core.List.{List}
 use Prim.Native.Nat.{ℕ}
 use Rattle.table.specs.declared.topped.Tops.{Tops}
 use Rattle.table.specs.declared.nodes.SequenceOp.{SequenceOp}
 use Rattle.table.specs.declared.nodes.SequenceOp.the-variants.{Letter, Then, Fused, Either, Empty, Repeat, Clocked}
-use Rattle.table.specs.Flags.{flags, thenTops, fusedTops, eitherTops, topsAt, sequenceTops}
+use Rattle.table.specs.Flags.{flags, thenTops, fusedTops, eitherTops, sequenceTops}
 use Rattle.table.proofs.topped.sequence_tops.Statement.{statement}
 use Rattle.table.proofs.topped.sequence_tops.Tie as tie
 
-module _ (l : List Tops) (q : SequenceOp) where
-  letter : (x : ℕ) → q ≡ Letter x → flags false true ≡ sequenceTops l q
+module _ (q : SequenceOp) (x y : Tops) where
+  letter : (i : ℕ) → q ≡ Letter i → flags false true ≡ sequenceTops q x y
   unfolding sequenceTops
-  letter x e = rw e
+  letter i e = rw e
 
-  empty : (x : ℕ) → q ≡ Empty x → flags true false ≡ sequenceTops l q
+  thens : (i j : ℕ) → q ≡ Then i j → (t : Tops) → t ≡ thenTops x y → t ≡ sequenceTops q x y
   unfolding sequenceTops
-  empty x e = rw e
+  thens i j e t f = rw (e, f)
 
-  repeat : (x : ℕ) → q ≡ Repeat x → (t : Tops) → t ≡ topsAt l x → t ≡ sequenceTops l q
+  fuseds : (i j : ℕ) → q ≡ Fused i j → (t : Tops) → t ≡ fusedTops x y → t ≡ sequenceTops q x y
   unfolding sequenceTops
-  repeat x e t f = rw (e, f)
+  fuseds i j e t f = rw (e, f)
 
-  clocked : (c x : ℕ) → q ≡ Clocked c x → (t : Tops) → t ≡ topsAt l x → t ≡ sequenceTops l q
+  eithers : (i j : ℕ) → q ≡ Either i j → (t : Tops) → t ≡ eitherTops x y → t ≡ sequenceTops q x y
   unfolding sequenceTops
-  clocked c x e t f = rw (e, f)
+  eithers i j e t f = rw (e, f)
 
-  module _ (x y : ℕ) (a : Tops) (ea : a ≡ topsAt l x) (b : Tops) (eb : b ≡ topsAt l y) (t : Tops) where
-    thens : q ≡ Then x y → t ≡ thenTops a b → t ≡ sequenceTops l q
-    unfolding sequenceTops
-    thens e f = rw (e, f, ea, eb)
+  empty : (i : ℕ) → q ≡ Empty i → flags true false ≡ sequenceTops q x y
+  unfolding sequenceTops
+  empty i e = rw e
 
-    fuseds : q ≡ Fused x y → t ≡ fusedTops a b → t ≡ sequenceTops l q
-    unfolding sequenceTops
-    fuseds e f = rw (e, f, ea, eb)
+  repeat : (i : ℕ) → q ≡ Repeat i → x ≡ sequenceTops q x y
+  unfolding sequenceTops
+  repeat i e = rw e
 
-    eithers : q ≡ Either x y → t ≡ eitherTops a b → t ≡ sequenceTops l q
-    unfolding sequenceTops
-    eithers e f = rw (e, f, ea, eb)
+  clocked : (c j : ℕ) → q ≡ Clocked c j → y ≡ sequenceTops q x y
+  unfolding sequenceTops
+  clocked c j e = rw e
 
 pub sequence-tops-spec : {M : Type 1} → statement M
 sequence-tops-spec =
@@ -49,21 +46,13 @@ sequence-tops-spec =
     (λ c. search needs)
     (λ c. search needs)
     (λ c κs. search needs)
-    (λ c κs. search needs)
-    (λ c κs. search needs)
-    (λ c. search needs)
-    (λ c κs. search needs)
-    (λ c κs. search needs)
-    (λ c κs. search needs)
-    (λ c. search needs)
-    (λ c κs. search needs)
-    (λ c κs. search needs)
-    (λ c κs. search needs)
-    (λ c. search needs)
     (λ c. search needs)
     (λ c κs. search needs)
     (λ c. search needs)
     (λ c κs. search needs)
+    (λ c. search needs)
+    (λ c. search needs)
+    (λ c. search needs)
     (λ c. search letter)
     (λ c. search thens)
     (λ c. search fuseds)

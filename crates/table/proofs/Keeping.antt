@@ -1,0 +1,73 @@
+-- The flags as the code keeps them: those of the k nodes below, in their order, and nothing after them. Assumes nothing.
+use native.Mathlib.Omega.{arith}
+use native.Mathlib.Numerals.{add-one}
+use borrow.Author.Tests.{ltb-false}
+use mathlib.Core.Path.{_≡_, refl, _∙_, sym, ap}
+use mathlib.Core.Logic.{⊎-elim}
+use mathlib.Core.Bool.{Bool, true, false, cond}
+use mathlib.Core.List.{List}
+use Prim.Native.Nat.{ℕ, _+_, _<_, _≤_}
+use lib.Dec.{ltb}
+use lib.ListN.{length, take, getD, set, replicate, List·getD-eq-default}
+use lib.Seq.{take-suc-set, getD-take, getD-set-other}
+use Rattle.tests.proofs.Telling.{side}
+use Rattle.refusal.specs.Computed.{first}
+use Rattle.refusal.proofs.Firsts.{on, found}
+use Rattle.table.specs.declared.nodes.Raw.{Raw}
+use Rattle.table.specs.declared.nodes.Node.{Node}
+use Rattle.table.specs.declared.topped.Tops.{Tops}
+use Rattle.table.specs.Operators.{nodeOf, Decodes}
+use Rattle.table.specs.Nodes.{rawAt, nodeAt}
+use Rattle.table.specs.Flags.{nothing, topsAt, nodeTops, topsBelow, hollowNode, hollow}
+use Rattle.table.specs.Computed.{keptAt}
+use Rattle.table.proofs.Counting.{filled}
+use Rattle.table.proofs.Topping.{long}
+
+module _ (s : List ℕ) (n k : ℕ) (h : k < n) (few : n ≤ 120) (done : List Tops) (d : take k done ≡ topsBelow s k)
+    (z : (j : ℕ) → k ≤ j → getD done j nothing ≡ nothing) where
+  -- what is kept of an operand is what is known of it
+  kept : (v : ℕ) → getD done (keptAt v) nothing ≡ topsAt (topsBelow s k) v
+  unfolding keptAt
+  kept v = go (ltb v 120) refl
+    where
+      past : k ≤ v → topsAt (topsBelow s k) v ≡ nothing
+      past l = List·getD-eq-default (topsBelow s k) nothing (let e = long s k in omega arith)
+
+      go : (b : Bool) → ltb v 120 ≡ b → getD done (cond b v 120) nothing ≡ topsAt (topsBelow s k) v
+      go true e =
+          ⊎-elim (λ (l : v < k). sym (getD-take k done v nothing l) ∙ ap (λ (t : List Tops). getD t v nothing) d)
+          (λ (l : k ≤ v). z v l ∙ sym (past l)) (side v k)
+      go false e = let g = ltb-false v 120 e in z 120 (omega arith) ∙ sym (past (omega arith))
+
+  module _ (w : Raw) (ew : w ≡ rawAt s k) (v : Node) (ev : Decodes w v) (p : ℕ) (ep : p ≡ keptAt (w .x)) where
+    node : v ≡ nodeAt s k
+    node = ev .made ∙ ap nodeOf ew
+
+    left : getD done p nothing ≡ topsAt (topsBelow s k) (rawAt s k .x)
+    left = rw (ep, ew) (kept (rawAt s k .x))
+
+    pub grown : length done ≡ 121 → (q : ℕ) → q ≡ keptAt (w .y) → (a : Tops) → a ≡ nodeTops v (getD done p nothing) (getD done q nothing)
+        → take (k + 1) (set done k a) ≡ topsBelow s (k + 1)
+    unfolding topsBelow
+    grown o q eq a e =
+        let l : k < length done = omega arith in
+        let right : getD done q nothing ≡ topsAt (topsBelow s k) (rawAt s k .y) = rw (eq, ew) (kept (rawAt s k .y)) in
+        rw (add-one k, take-suc-set done k a l, e, d, node, left, right)
+
+    module _ (i : first (hollow s) 0 n ≡ first (hollow s) k n) (t : Bool) (e : t ≡ hollowNode v (getD done p nothing)) where
+      looked : t ≡ hollow s k
+      unfolding hollow
+      looked = e ∙ rw (node, left)
+
+      pub solid : t ≡ false → first (hollow s) 0 n ≡ first (hollow s) (k + 1) n
+      solid = on (hollow s) k n i h t looked
+
+      pub hollows : t ≡ true → k ≡ first (hollow s) 0 n
+      hollows = found (hollow s) k n i h t looked
+
+-- nothing is kept past the node whose flags came last
+pub still : (k : ℕ) (done : List Tops) → ((j : ℕ) → k ≤ j → getD done j nothing ≡ nothing) → (a : Tops) (j : ℕ) → k + 1 ≤ j → getD (set done k a) j nothing ≡ nothing
+still k done z a j l = getD-set-other done k j a nothing (λ e. omega arith) ∙ z j (omega arith)
+
+pub nothing-kept : (j : ℕ) → getD (replicate 121 nothing) j nothing ≡ nothing
+nothing-kept j = filled nothing 121 j
