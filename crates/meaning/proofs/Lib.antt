@@ -12,3 +12,4 @@ pub mod Eval
 pub mod Answers
 pub mod Leveling
 pub mod Rewriting
+pub mod Entering

@@ -207,3 +207,16 @@ decides-append [] ds [] ss d e = e tt
 decides-append [] ds (r ∷ rs) ss d e = absurd d
 decides-append (c ∷ cs) ds [] ss d e = absurd d
 decides-append (c ∷ cs) ds (r ∷ rs) ss d e = (d .0, λ no. decides-append cs ds rs ss (d .1 no) (λ n. e (no, n)))
+
+-- ---- what an answer says of the refusals before it
+
+-- the answer has none of these numbers
+abbrev pub Other : Verdict → List Refusal → Type 0
+Other v [] = Unit {0}
+Other v (r ∷ rs) = (¬ (v .number ≡ r .number)) × Other v rs
+
+pub reached : (rs ss : List Refusal) (v : Verdict) → Other v rs → Answers (rs ++ ss) v → NotGiven rs × Answers ss v
+unfolding Answers
+reached [] ss v o a = (tt, a)
+reached (r ∷ rs) ss v o (inl a) = absurd (o .0 (a .0))
+reached (r ∷ rs) ss v o (inr (un, a)) = let (n, b) = reached rs ss v (o .1) a in ((un, n), b)

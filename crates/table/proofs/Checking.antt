@@ -2,19 +2,20 @@
 use native.Mathlib.Omega.{arith}
 use native.Mathlib.Nat.{eq-or-lt-of-le, le-of-suc-le-suc, lt-of-not-le, pos-of-ne-zero}
 use borrow.Author.Tests.{le-ltb, ne-eqb, eqb-true, not-false}
-use mathlib.Core.Path.{_≡_, refl, _∙_, sym, ap, subst}
+use mathlib.Core.Path.{_≡_, refl, sym, subst}
 use mathlib.Core.Logic.{_⊎_, inl, inr, ⊎-elim}
-use mathlib.Core.Bool.{false}
+use mathlib.Core.Bool.{false, not}
 use mathlib.Core.List.{List}
 use Prim.Native.Nat.{ℕ, suc, _+_, _*_, _<_, _≤_}
 use lib.Dec.{eqb}
-use lib.ListN.{length}
+use lib.ListN.{length, take, drop}
 use Rattle.tests.specs.Tests.{Tells}
-use Rattle.tests.proofs.Telling.{is-map, is-or, is-and, is-not, is-eq, is-lt, passed, failed}
+use Rattle.tests.proofs.Telling.{is-map, is-or, is-and, is-not, is-eq, is-lt, passed}
 use Rattle.refusal.specs.declared.Verdict.{Verdict}
 use Rattle.refusal.specs.Heading.{count, headingRefusals}
-use Rattle.refusal.specs.Computed.{headingCases}
-use Rattle.refusal.proofs.Deciding.{Decides, decided-when, decided-lowest, decides-append, not-applied, none, none-below, answers, only}
+use Rattle.refusal.specs.First.{LowestSuch, when, atLowest, Answers}
+use Rattle.refusal.specs.Computed.{at0, atFirst, headingCases}
+use Rattle.refusal.proofs.Deciding.{Decided, Decides, Other, reached, decided-when, decided-lowest, decides-append, not-applied, none-below, answers, only}
 use Rattle.refusal.proofs.Headings.{decides-heading}
 use Rattle.table.specs.declared.nodes.Node.{Node}
 use Rattle.table.specs.Operators.{boolean, sequence, property}
@@ -96,29 +97,51 @@ module _ (s : List ℕ) where
 
   -- ---- all
 
+  five : Decided (at0 5 (not (eqb (length s) (4 * count s + 6)))) (when 5 (¬ (length s ≡ 6 + 4 * count s)))
+  five = decided-when 5 (is-not (is-map (is-eq (length s) (4 * count s + 6)) (λ e. omega arith) (λ e. omega arith)))
+
+  six : Decided (atFirst 6 (count s) (unfit s)) (atLowest 6 (count s) (λ k. ¬ WellFormed s k))
+  six = decided-lowest (unfit s) (count s) 6 (λ k l. is-not (fits-tells s k))
+
+  seven : Decided (atFirst 7 (count s) (astray s (count s))) (atLowest 7 (count s) (Astray s (count s)))
+  seven = decided-lowest (astray s (count s)) (count s) 7 (λ k l. astray-tells (count s) k)
+
+  -- a table that gets none of 4 to 8
+  pub record Built : Type 0 where
+    pub some : 1 ≤ count s
+    pub few : count s ≤ 120
+    pub long : length s ≡ 4 * count s + 6
+    pub fit : (k : ℕ) → k < count s → WellFormed s k
+    pub once : (k : ℕ) → suc k < count s → sequence ≤ sortAt s k → usesOf s k (count s) ≡ 1
+    pub rooted : ¬ (sortAt s (root s) ≡ boolean)
+
+  built : ((k : ℕ) → ¬ (when 4 ((count s ≡ 0) ⊎ (120 < count s))) .given k) → ((k : ℕ) → ¬ (when 5 (¬ (length s ≡ 6 + 4 * count s))) .given k)
+      → ((k : ℕ) → ¬ LowestSuch (count s) (λ k. ¬ WellFormed s k) k) → ((k : ℕ) → ¬ LowestSuch (count s) (Astray s (count s)) k)
+      → ((k : ℕ) → ¬ (when 8 (sortAt s (root s) ≡ boolean)) .given k) → Built
+  built h4 h5 h6 h7 h8 = record {
+    some = pos-of-ne-zero (λ e. h4 0 (refl, inl e));
+    few = le-of-suc-le-suc (lt-of-not-le (λ l. h4 0 (refl, inr l)));
+    long = eqb-true (length s) (4 * count s + 6) (not-false (eqb (length s) (4 * count s + 6)) (not-applied five h5));
+    fit = all-formed (none-below (unfit s) (count s) (not-applied six h6));
+    once = placed (count s) (none-below (astray s (count s)) (count s) (not-applied seven h7));
+    rooted = λ e. h8 0 (refl, e);
+  }
+
+  nine : Built → Decided (atFirst 9 (count s) (hollow s)) (atLowest 9 (count s) (Hollow s))
+  nine b = decided-lowest (hollow s) (count s) 9 (hollows-tell (b .some) (b .fit) (b .once))
+
   pub decides : Decides (cases s) (refusals s)
   unfolding laterCases nodeCases refusals
   decides =
-      let n = count s in
       decides-append (headingCases 0x54 s) (laterCases s) (headingRefusals 0x54 s) _ (decides-heading 0x54 s)
       (λ _. (
-        decided-when 4 (is-or (is-eq n 0) (is-lt 120 n)),
+        decided-when 4 (is-or (is-eq (count s) 0) (is-lt 120 (count s))),
         λ h4. (
-          decided-when 5 (is-not (is-map (is-eq (length s) (4 * n + 6)) (λ e. omega arith) (λ e. omega arith))),
-          λ h5.
-              let six = decided-lowest (unfit s) n 6 (λ k l. is-not (fits-tells s k)) in (
-                six,
-                λ h6.
-                    let fit = all-formed (none-below (unfit s) n (not-applied six h6)) in
-                    let seven = decided-lowest (astray s n) n 7 (λ k l. astray-tells n k) in (
-                      seven,
-                      λ h7.
-                          let once = placed n (none-below (astray s n) n (not-applied seven h7)) in (
-                            decided-when 8 (is-eq (sortAt s (root s)) boolean),
-                            λ h8. (decided-lowest (hollow s) n 9 (hollows-tell (pos-of-ne-zero (λ e. h4 0 (refl, inl e))) fit once), λ _. tt),
-                          ),
-                    ),
-              ),
+          five,
+          λ h5. (
+            six,
+            λ h6. (seven, λ h7. (decided-when 8 (is-eq (sortAt s (root s)) boolean), λ h8. (nine (built h4 h5 h6 h7 h8), λ _. tt))),
+          ),
         ),
       ))
 
@@ -130,30 +153,37 @@ module _ (s : List ℕ) where
   unfolding checked
   checks-only v c = only (cases s) (refusals s) decides v c
 
--- ---- what a caller has of an accepted table
+-- ---- what an answer says of a table
 
+-- an accepted one
 pub record Sound (s : List ℕ) : Type 0 where
-  pub some : 1 ≤ count s
-  pub few : count s ≤ 120
-  pub long : length s ≡ 4 * count s + 6
-  pub fit : (k : ℕ) → k < count s → WellFormed s k
-  pub once : (k : ℕ) → suc k < count s → sequence ≤ sortAt s k → usesOf s k (count s) ≡ 1
-  pub rooted : ¬ (sortAt s (root s) ≡ boolean)
+  pub formed : Built s
   pub solid : (k : ℕ) → k < count s → hollow s k ≡ false
 
-pub sound : (s : List ℕ) (v : Verdict) → Checks s v → v .number ≡ 0 → Sound s
-unfolding checked headingCases laterCases nodeCases
-sound s v c z =
-    let n = count s in
-    let d = none (cases s) tt (ap (λ (u : Verdict). u .number) (sym (checks-only s v c)) ∙ z) .1 .1 .1 in
-    let f = failed (is-or (is-eq n 0) (is-lt 120 n)) (d .0) in
-    let g = d .1 .1 in
-    record {
-      some = let h : ¬ (n ≡ 0) = λ e. f (inl e) in omega arith;
-      few = le-of-suc-le-suc (lt-of-not-le (λ h. f (inr h)));
-      long = eqb-true (length s) (4 * n + 6) (not-false (eqb (length s) (4 * n + 6)) (d .1 .0));
-      fit = all-formed s (none-below (unfit s) n (g .0));
-      once = placed s n (none-below (astray s n) n (g .1 .0));
-      rooted = failed (is-eq (sortAt s (root s)) boolean) (g .1 .1 .0);
-      solid = none-below (hollow s) n (g .1 .1 .1 .0);
-    }
+module _ (s : List ℕ) (v : Verdict) (c : Checks s v) where
+  -- an answer that is none of 1 to 8: what the table has, and the ninth
+  past-eight : ((i : ℕ) → 1 ≤ i → i ≤ 8 → ¬ (v .number ≡ i)) → Built s × Answers (drop 8 (refusals s)) v
+  unfolding refusals
+  past-eight o =
+      let others : Other v (take 8 (refusals s)) = (
+        o 1 (omega arith) (omega arith),
+        (o 2 (omega arith) (omega arith), (o 3 (omega arith) (omega arith), (o 4 (omega arith) (omega arith), (o 5 (omega arith) (omega arith), (o 6 (omega arith) (omega arith), (o 7 (omega arith) (omega arith), (o 8 (omega arith) (omega arith), tt))))))),
+      ) in
+      let ((h1, (h2, (h3, (h4, (h5, (h6, (h7, (h8, t)))))))), a) = reached (take 8 (refusals s)) (drop 8 (refusals s)) v others c in
+      (built s h4 h5 h6 h7 h8, a)
+
+  pub sound : v .number ≡ 0 → Sound s
+  unfolding refusals Answers
+  sound z =
+      let (b, a) = past-eight (λ i l m e. omega arith) in
+      record {
+        formed = b;
+        solid = none-below (hollow s) (count s) (not-applied (nine s b) (⊎-elim (λ q. absurd (let e = q .0 in omega arith)) (λ q. q .0) a));
+      }
+
+  -- and one that is refused with 9
+  pub hollow-one : v .number ≡ 9 → Built s × Hollow s (v .node)
+  unfolding refusals Answers
+  hollow-one z =
+      let (b, a) = past-eight (λ i l m e. omega arith) in
+      (b, ⊎-elim (λ q. q .1 .such) (λ q. absurd (let e = q .1 .0 in omega arith)) a)

@@ -7,21 +7,24 @@ use Prim.Native.Nat.{ℕ, _<_, _≤_}
 use Rattle.refusal.specs.declared.Verdict.{Verdict}
 use Rattle.refusal.specs.Heading.{count}
 use Rattle.meaning.specs.Parts.{Tree, seq, prop, Within}
-use Rattle.meaning.specs.Syntax.{Bexp, Seq, Prop, Clock, free}
-use Rattle.meaning.specs.Meaning.{Accepted}
+use Rattle.meaning.specs.Syntax.{Bexp, Seq, Prop, strong, weak, implies, Clock, free}
+use Rattle.meaning.specs.Meaning.{Topped, Accepted}
 use Rattle.meaning.specs.Signal.{signal}
+use Rattle.meaning.proofs.Entering.{within-accepted}
+use Rattle.table.specs.declared.nodes.Node.{Node}
 use Rattle.table.specs.Operators.{boolean, sequence, property}
 use Rattle.table.specs.Nodes.{sortAt, nodeAt, root}
-use Rattle.table.specs.Trees.{BooleanAt, SequenceAt, PropertyAt, TreeAt, t-seq, t-prop, Ref, ClockOf, c-root, c-part, ClockAt}
-use Rattle.table.specs.Check.{Checks}
+use Rattle.table.specs.Trees.{BooleanAt, SequenceAt, PropertyAt, p-strong, p-weak, p-imp, TreeAt, t-seq, t-prop, Ref, ClockOf, c-root, c-part, ClockAt}
+use Rattle.table.specs.Check.{Asks, by-strong, by-weak, by-implies, Checks}
 use Rattle.table.specs.Computed.{checked}
 use Rattle.table.proofs.Reading.{uniqueB, uniqueS, uniqueP, uniqueC}
+use Rattle.table.proofs.Shapes.{down}
 use Rattle.table.proofs.Standing.{boolean-in, sequence-in, property-in}
 use Rattle.table.proofs.Topping.{accepted-at}
 use Rattle.table.proofs.Clocking.{clock-exists, clock-unique, clock-inside, clock-known}
 use Rattle.table.proofs.Placing.{part-sort}
 use Rattle.table.proofs.Within.{tree-unique, read-under}
-use Rattle.table.proofs.Checking.{checks, checks-only, Sound, sound, sorts}
+use Rattle.table.proofs.Checking.{checks, checks-only, Built, sound, hollow-one, sorts}
 
 -- every table has one verdict
 pub exists : (s : List ℕ) → (v : Verdict) × Checks s v
@@ -34,17 +37,50 @@ unique s u v a b = checks-only s u a ∙ sym (checks-only s v b)
 abbrev pub ExactlyOne : (A : Type 0) → (A → Type 0) → Type 0
 ExactlyOne A R = (a : A) × R a × ((b : A) → R b → a ≡ b)
 
--- of a table that is accepted:
-module _ (s : List ℕ) (v : Verdict) (c : Checks s v) (z : v .number ≡ 0) where
-  ok : Sound s
-  ok = sound s v c z
+-- ---- of a table that gets none of 1 to 8
 
+module _ (s : List ℕ) (ok : Built s) where
   -- a node that is no boolean stands for a sequence or a property
   tree-at : (k : ℕ) → k < count s → ¬ (sortAt s k ≡ boolean) → (t : Tree ℕ) × TreeAt (nodeAt s) k t
   tree-at k h b =
       ⊎-elim (λ e. let (r, d) = sequence-in s (count s) (ok .fit) (count s) k h h e in (seq r, t-seq d))
       (λ e. let (P, d) = property-in s (count s) (ok .fit) (count s) k h h e in (prop P, t-prop d))
       (sorts s k (ok .fit k h) b)
+
+  in-root : root s < count s
+  in-root = let l = ok .some in omega arith
+
+  clocked-in : {k : ℕ} {ρ : Ref} → ClockOf s k ρ → k < count s
+  clocked-in c = clock-inside s (ok .some) (ok .fit) (ok .once) c
+
+  -- what has a clock is no boolean
+  clocked-sort : {k : ℕ} {ρ : Ref} → ClockOf s k ρ → ¬ (sortAt s k ≡ boolean)
+  clocked-sort c-root = ok .rooted
+  clocked-sort (c-part {p = p} {k = k} c a) = let h = part-sort s k (ok .fit p (clocked-in c)) a in λ e. omega arith
+
+  read-there : (t : Tree ℕ) → TreeAt (nodeAt s) (root s) t → (k : ℕ) (ρ : Ref) (κ : Clock ℕ) (q : Tree ℕ)
+      → ClockOf s k ρ → ClockAt (nodeAt s) ρ κ → TreeAt (nodeAt s) k q → Within free t κ q
+  read-there t d k ρ κ q c e f =
+      read-under s (ok .fit) (λ j σ g. clocked-in g)
+      (λ j σ g. (tree-at j (clocked-in g) (clocked-sort g), clock-known s (ok .some) (ok .fit) (ok .once) g))
+      t d c e f
+
+  -- a node that asks for the sequence r stands for a property that is accepted only if r is topped
+  asking : (k : ℕ) → k < count s → {v : Node} {x : ℕ} → Asks v x → nodeAt s k ≡ v → {r : Seq ℕ} → SequenceAt (nodeAt s) x r
+      → (Q : Prop ℕ) × PropertyAt (nodeAt s) k Q × ((κ : Clock ℕ) → Accepted signal κ Q → Topped signal κ r)
+  unfolding Accepted
+  asking k h by-strong e {r} d = (strong r, p-strong e d, λ κ a. a)
+  asking k h by-weak e {r} d = (weak r, p-weak e d, λ κ a. a)
+  asking k h (by-implies {y = y}) e {r} d =
+      let (g, j) = down s k (ok .fit k h) e in
+      let (P, f) = property-in s (count s) (ok .fit) (count s) y (omega arith) (omega arith) (j .1) in
+      (implies r P, p-imp e d f, λ κ a. a .0)
+
+-- ---- of a table that is accepted
+
+module _ (s : List ℕ) (v : Verdict) (c : Checks s v) (z : v .number ≡ 0) where
+  ok : Built s
+  ok = sound s v c z .formed
 
   -- each node stands for exactly one tree, of its sort
   module _ (k : ℕ) (h : k < count s) where
@@ -66,29 +102,22 @@ module _ (s : List ℕ) (v : Verdict) (c : Checks s v) (z : v .number ≡ 0) whe
 
   -- the root stands for exactly one tree, a sequence or a property
   pub one-root : ExactlyOne (Tree ℕ) (TreeAt (nodeAt s) (root s))
-  one-root =
-      let (t, d) = tree-at (root s) in-root (λ e. ok .rooted e) in
-      (t, d, λ b f. tree-unique d f)
-    where
-      in-root : root s < count s
-      in-root = let l = ok .some in omega arith
-
-  -- what has a clock is no boolean
-  clocked-sort : {k : ℕ} {ρ : Ref} → ClockOf s k ρ → ¬ (sortAt s k ≡ boolean)
-  clocked-sort c-root = ok .rooted
-  clocked-sort (c-part {p = p} {k = k} c a) =
-      let h = part-sort s k (ok .fit p (clock-inside s (ok .some) (ok .fit) (ok .once) c)) a in λ e. omega arith
+  one-root = let (t, d) = tree-at s ok (root s) (in-root s ok) (ok .rooted) in (t, d, λ b f. tree-unique d f)
 
   -- and its clocks are as the page says: each node's tree occurs in the root's, read there under the node's clock
   pub clocks-as-read : (t : Tree ℕ) → TreeAt (nodeAt s) (root s) t → (k : ℕ) (ρ : Ref) (κ : Clock ℕ) (q : Tree ℕ)
       → ClockOf s k ρ → ClockAt (nodeAt s) ρ κ → TreeAt (nodeAt s) k q → Within free t κ q
-  clocks-as-read t d k ρ κ q c e f =
-      read-under s (ok .fit) (λ j σ g. clock-inside s (ok .some) (ok .fit) (ok .once) g)
-      (λ j σ g.
-      let h = clock-inside s (ok .some) (ok .fit) (ok .once) g in
-      (tree-at j h (clocked-sort g), clock-known s (ok .some) (ok .fit) (ok .once) g))
-      t d c e f
+  clocks-as-read = read-there s ok
 
   -- a property at the root is accepted by the meaning
   pub accepted-root : (P : Prop ℕ) → PropertyAt (nodeAt s) (root s) P → Accepted signal free P
-  accepted-root P d = let l = ok .some in accepted-at s (count s) (ok .fit) (ok .solid) d (omega arith) free
+  accepted-root P d = accepted-at s (count s) (ok .fit) (sound s v c z .solid) d (in-root s ok) free
+
+-- ---- and of one that is refused with 9: the property at its root is not accepted by the meaning
+
+pub refused-root : (s : List ℕ) (v : Verdict) → Checks s v → v .number ≡ 9 → (P : Prop ℕ) → PropertyAt (nodeAt s) (root s) P → ¬ Accepted signal free P
+refused-root s v c z P d a =
+    let (ok, h) = hollow-one s v c z in
+    let (Q, f, topped) = asking s ok (v .node) (clocked-in s ok (h .clocked)) (h .asks) refl (h .stands) in
+    let w = read-there s ok (prop P) (t-prop d) (v .node) (h .ref) (h .clock) (prop Q) (h .clocked) (h .means) (t-prop f) in
+    h .never (topped (h .clock) (within-accepted signal w a))
