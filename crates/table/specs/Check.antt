@@ -35,6 +35,7 @@ pub record Hollow (s : List ℕ) (k : ℕ) : Type 0 where
   pub means : ClockAt (nodeAt s) ref clock
   pub never : ¬ Topped signal clock sequence
 
+-- 1 to 9, in order
 unfoldable pub refusals : List ℕ → List Refusal
 refusals s =
     headingRefusals 0x54 s
