@@ -54,12 +54,12 @@ module _ {S : Type 0} where
   abbrev pub cut : Word S → ℕ → Word S
   cut w n = λ p. cond (ltb p n) (w p) top
 
-  -- suffix i has no ⊥ tail
   abbrev pub isBot : Cell S → Bool
   isBot (real s) = false
   isBot top = false
   isBot bot = true
   isBot end = false
 
+  -- suffix i has no ⊥ tail
   unfoldable pub NoBot : Word S → ℕ → Type 0
   NoBot w i = (p : ℕ) → i ≤ p → T (not (isBot (w p)))

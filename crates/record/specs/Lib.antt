@@ -1,2 +1,3 @@
 pub mod Record
-pub mod Answer
+-- What the code is held to on the way there.
+pub mod Computed

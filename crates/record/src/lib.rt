@@ -5,7 +5,7 @@ ghost use Prim.Native.Nat.{_+_, _*_, _<_, _≤_};
 ghost use lib.ListN.{length, take, drop};
 ghost use Rattle.refusal.specs.Heading.{number};
 ghost use Rattle.record.specs.Record.{sampleAt, samples, Reads};
-ghost use Rattle.record.specs.Answer.{refusing};
+ghost use Rattle.record.specs.Computed.{refusing};
 use refusal::Verdict;
 
 // What reading answers: the verdict, and how many samples it wrote.

@@ -12,9 +12,9 @@ module _ (p : ℕ → Bool) (k n : ℕ) where
   one-less : k < n → n - k ≡ suc (n - (k + 1))
   one-less h = omega arith
 
-  pub passed : k < n → p k ≡ false → first p k n ≡ first p (k + 1) n
+  pub skipped : k < n → p k ≡ false → first p k n ≡ first p (k + 1) n
   unfolding firstOf
-  passed h e = rw (one-less h, e, add-one k)
+  skipped h e = rw (one-less h, e, add-one k)
 
   pub stopped : k < n → p k ≡ true → first p k n ≡ k
   unfolding firstOf
@@ -30,7 +30,7 @@ module _ (p : ℕ → Bool) (k n : ℕ) where
 
     module _ (h : k < n) (t : Bool) (e : t ≡ p k) where
       pub on : t ≡ false → first p 0 n ≡ first p (k + 1) n
-      on f = i ∙ passed h (sym e ∙ f)
+      on f = i ∙ skipped h (sym e ∙ f)
 
       pub found : t ≡ true → k ≡ first p 0 n
       found f = sym (i ∙ stopped h (sym e ∙ f))

@@ -28,6 +28,7 @@ use Rattle.table.proofs.Shapes.{sortOf, sort-is}
 use Rattle.table.proofs.Standing.{sequence-in}
 use Rattle.table.proofs.Topping.{asked, asks, hollow-tells}
 use Rattle.table.proofs.Placing.{fine-row}
+use Rattle.table.proofs.Built.{Built}
 use Rattle.table.proofs.Clocking.{clock-exists}
 
 module _ (s : List ℕ) where
@@ -64,15 +65,14 @@ module _ (s : List ℕ) where
 
   -- ---- 9
 
-  module _ (some : 1 ≤ count s) (fit : (k : ℕ) → k < count s → WellFormed s k)
-      (once : (k : ℕ) → suc k < count s → sequence ≤ sortAt s k → usesOf s k (count s) ≡ 1) where
+  module _ (ok : Built s) where
     hollows-tell : (k : ℕ) → k < count s → Tells (hollow s k) (Hollow s k)
     hollows-tell k l = record {
       to = λ t.
-          let (x, a) = asks s (count s) fit k l t in
-          let (e, b, z) = asked s (count s) fit k l a refl in
-          let (r, d) = sequence-in s (count s) fit (count s) x (omega arith) (omega arith) z in
-          let (ρ, c, (κ, m)) = clock-exists s some fit once k l (heavy k l a) in
+          let (x, a) = asks s (count s) (ok .fit) k l t in
+          let (e, b, z) = asked s (count s) (ok .fit) k l a refl in
+          let (r, d) = sequence-in s (count s) (ok .fit) (count s) x (omega arith) (omega arith) z in
+          let (ρ, c, (κ, m)) = clock-exists s ok k l (heavy k l a) in
           record {
             x = x;
             asks = a;
@@ -82,9 +82,9 @@ module _ (s : List ℕ) where
             clocked = c;
             clock = κ;
             means = m;
-            never = hollow-tells s (count s) fit k l a d κ .to t;
+            never = hollow-tells s (count s) (ok .fit) k l a d κ .to t;
           };
-      from = λ h. hollow-tells s (count s) fit k l (h .asks) (h .stands) (h .clock) .from (h .never);
+      from = λ h. hollow-tells s (count s) (ok .fit) k l (h .asks) (h .stands) (h .clock) .from (h .never);
     }
       where
         property-asks : {v : Node} {x : ℕ} → Asks v x → sequence ≤ sortOf v
@@ -93,7 +93,7 @@ module _ (s : List ℕ) where
         property-asks by-implies = omega arith
 
         heavy : (k : ℕ) → k < count s → {x : ℕ} → Asks (nodeAt s k) x → sequence ≤ sortAt s k
-        heavy k l a = let h = property-asks a in let e = sort-is s k (fit k l) in omega arith
+        heavy k l a = let h = property-asks a in let e = sort-is s k (ok .fit k l) in omega arith
 
   -- ---- all
 
@@ -106,18 +106,9 @@ module _ (s : List ℕ) where
   seven : Decided (atFirst 7 (count s) (astray s (count s))) (atLowest 7 (count s) (Astray s (count s)))
   seven = decided-lowest (astray s (count s)) (count s) 7 (λ k l. astray-tells (count s) k)
 
-  -- a table that gets none of 4 to 8
-  pub record Built : Type 0 where
-    pub some : 1 ≤ count s
-    pub few : count s ≤ 120
-    pub long : length s ≡ 4 * count s + 6
-    pub fit : (k : ℕ) → k < count s → WellFormed s k
-    pub once : (k : ℕ) → suc k < count s → sequence ≤ sortAt s k → usesOf s k (count s) ≡ 1
-    pub rooted : ¬ (sortAt s (root s) ≡ boolean)
-
   built : ((k : ℕ) → ¬ (when 4 ((count s ≡ 0) ⊎ (120 < count s))) .given k) → ((k : ℕ) → ¬ (when 5 (¬ (length s ≡ 6 + 4 * count s))) .given k)
       → ((k : ℕ) → ¬ LowestSuch (count s) (λ k. ¬ WellFormed s k) k) → ((k : ℕ) → ¬ LowestSuch (count s) (Astray s (count s)) k)
-      → ((k : ℕ) → ¬ (when 8 (sortAt s (root s) ≡ boolean)) .given k) → Built
+      → ((k : ℕ) → ¬ (when 8 (sortAt s (root s) ≡ boolean)) .given k) → Built s
   built h4 h5 h6 h7 h8 = record {
     some = pos-of-ne-zero (λ e. h4 0 (refl, inl e));
     few = le-of-suc-le-suc (lt-of-not-le (λ l. h4 0 (refl, inr l)));
@@ -127,8 +118,8 @@ module _ (s : List ℕ) where
     rooted = λ e. h8 0 (refl, e);
   }
 
-  nine : Built → Decided (atFirst 9 (count s) (hollow s)) (atLowest 9 (count s) (Hollow s))
-  nine b = decided-lowest (hollow s) (count s) 9 (hollows-tell (b .some) (b .fit) (b .once))
+  nine : Built s → Decided (atFirst 9 (count s) (hollow s)) (atLowest 9 (count s) (Hollow s))
+  nine b = decided-lowest (hollow s) (count s) 9 (hollows-tell b)
 
   pub decides : Decides (cases s) (refusals s)
   unfolding laterCases nodeCases refusals

@@ -1,4 +1,4 @@
--- In a table whose nodes are well formed and well placed, each sequence or property node has one clock. Assumes nothing.
+-- In a table that gets none of refusals 4 to 8, each sequence or property node has one clock. Assumes nothing.
 use native.Mathlib.Omega.{arith}
 use native.Mathlib.Nat.{eq-or-lt-of-le}
 use mathlib.Core.Path.{_≡_, refl, _∙_, sym, ap, subst}
@@ -12,14 +12,14 @@ use Rattle.table.specs.declared.nodes.Node.the-variants.{Boolean, Sequen
 use Rattle.table.specs.declared.nodes.SequenceOp.the-variants.{Letter, Then, Fused, Either, Empty, Repeat, Clocked}
 use Rattle.table.specs.declared.nodes.PropertyOp.the-variants.{Strong, Weak, Negated, AnyOf, BothOf, Implies, Next, Until, Ticked}
 use Rattle.table.specs.Operators.{boolean, sequence}
-use Rattle.table.specs.Nodes.{sortAt, nodeAt, usesOf, root, WellFormed}
+use Rattle.table.specs.Nodes.{sortAt, nodeAt, root}
 use Rattle.table.specs.Trees.{Ref, freeR, onR, Part, handed, ClockOf, c-root, c-part, ClockAt, c-free, c-on}
+use Rattle.table.proofs.Built.{Built}
 use Rattle.table.proofs.Shapes.{down}
 use Rattle.table.proofs.Standing.{boolean-in}
 use Rattle.table.proofs.Placing.{part-below, part-sort, whole-sort, above, one-above}
 
-module _ (s : List ℕ) (some : 1 ≤ count s) (fit : (k : ℕ) → k < count s → WellFormed s k)
-    (once : (k : ℕ) → suc k < count s → sequence ≤ sortAt s k → usesOf s k (count s) ≡ 1) where
+module _ (s : List ℕ) (ok : Built s) where
   -- ---- there is one
 
   abbrev Known : Ref → Type 0
@@ -27,7 +27,7 @@ module _ (s : List ℕ) (some : 1 ≤ count s) (fit : (k : ℕ) → k < count s 
 
   -- the clock that a clock node sets
   set-by : (c p : ℕ) → p < count s → c < p → sortAt s c ≡ boolean → Known (onR c)
-  set-by c p h l e = let (b, d) = boolean-in s (count s) fit (count s) c (omega arith) (omega arith) e in (on b, c-on d)
+  set-by c p h l e = let (b, d) = boolean-in s (count s) (ok .fit) (count s) c (omega arith) (omega arith) e in (on b, c-on d)
 
   known-below : (p : ℕ) → p < count s → (v : Node) → nodeAt s p ≡ v → (ρ : Ref) → Known ρ → Known (handed v ρ)
   known-below p h (Boolean o) e ρ k = k
@@ -37,7 +37,7 @@ module _ (s : List ℕ) (some : 1 ≤ count s) (fit : (k : ℕ) → k < count s 
   known-below p h (Sequence (Either x y)) e ρ k = k
   known-below p h (Sequence (Empty x)) e ρ k = k
   known-below p h (Sequence (Repeat x)) e ρ k = k
-  known-below p h (Sequence (Clocked c x)) e ρ k = let (g, j) = down s p (fit p h) e in set-by c p h (g .0) (g .1)
+  known-below p h (Sequence (Clocked c x)) e ρ k = let (g, j) = down s p (ok .fit p h) e in set-by c p h (g .0) (g .1)
   known-below p h (Property (Strong x)) e ρ k = k
   known-below p h (Property (Weak x)) e ρ k = k
   known-below p h (Property (Negated x)) e ρ k = k
@@ -46,7 +46,7 @@ module _ (s : List ℕ) (some : 1 ≤ count s) (fit : (k : ℕ) → k < count s 
   known-below p h (Property (Implies x y)) e ρ k = k
   known-below p h (Property (Next x)) e ρ k = k
   known-below p h (Property (Until x y)) e ρ k = k
-  known-below p h (Property (Ticked c x)) e ρ k = let (g, j) = down s p (fit p h) e in set-by c p h (g .0) (g .1)
+  known-below p h (Property (Ticked c x)) e ρ k = let (g, j) = down s p (ok .fit p h) e in set-by c p h (g .0) (g .1)
 
   -- going up from node k, m steps are enough
   clock-in : (m k : ℕ) → k < count s → count s ≤ k + m → sequence ≤ sortAt s k → (ρ : Ref) × ClockOf s k ρ × Known ρ
@@ -54,8 +54,8 @@ module _ (s : List ℕ) (some : 1 ≤ count s) (fit : (k : ℕ) → k < count s 
   clock-in (suc m) k h f z =
       ⊎-elim (λ (e : suc k ≡ count s). let r : root s ≡ k = omega arith in (freeR, subst (λ (j : ℕ). ClockOf s j freeR) r c-root, (free, c-free)))
       (λ (l : suc k < count s).
-      let (p, g, a) = above s k (count s) (once k l z) fit z in
-      let b = part-below s k (fit p g) a in
+      let (p, g, a) = above s k (count s) (ok .once k l z) (ok .fit) z in
+      let b = part-below s k (ok .fit p g) a in
       let (ρ, c, q) = clock-in m p g (omega arith) (whole-sort s k a) in
       (handed (nodeAt s p) ρ, c-part c a, known-below p g (nodeAt s p) refl ρ q))
       (eq-or-lt-of-le h)
@@ -74,8 +74,8 @@ module _ (s : List ℕ) (some : 1 ≤ count s) (fit : (k : ℕ) → k < count s 
   came (c-part {p = p} {ρ = σ} c a) = inr (p, σ, c, a, refl)
 
   pub clock-inside : {k : ℕ} {ρ : Ref} → ClockOf s k ρ → k < count s
-  clock-inside c-root = omega arith
-  clock-inside (c-part {p = p} {k = k} c a) = let h = clock-inside c in let l = part-below s k (fit p h) a in omega arith
+  clock-inside c-root = let l = ok .some in omega arith
+  clock-inside (c-part {p = p} {k = k} c a) = let h = clock-inside c in let l = part-below s k (ok .fit p h) a in omega arith
 
   -- the number stands for a clock
   pub clock-known : {k : ℕ} {ρ : Ref} → ClockOf s k ρ → Known ρ
@@ -85,14 +85,14 @@ module _ (s : List ℕ) (some : 1 ≤ count s) (fit : (k : ℕ) → k < count s 
   pub clock-unique : {k : ℕ} {ρ σ : Ref} → ClockOf s k ρ → ClockOf s k σ → ρ ≡ σ
   clock-unique c-root d =
       ⊎-elim (λ q. sym (q .1))
-      (λ q. let (p, τ, c, a, e) = q in let h = clock-inside c in let l = part-below s (root s) (fit p h) a in absurd (omega arith)) (came d)
+      (λ q. let (p, τ, c, a, e) = q in let h = clock-inside c in let l = part-below s (root s) (ok .fit p h) a in absurd (omega arith)) (came d)
   clock-unique (c-part {p = p} {k = k} {ρ = ρ} c a) d =
       let h = clock-inside c in
-      let l = part-below s k (fit p h) a in
+      let l = part-below s k (ok .fit p h) a in
       ⊎-elim (λ q. let r : root s ≡ k = q .0 in absurd (omega arith))
       (λ q.
       let (p′, τ, c′, a′, e) = q in
-      let o : p′ ≡ p = one-above s k (count s) (once k (omega arith) (part-sort s k (fit p h) a)) (clock-inside c′) h a′ a in
+      let o : p′ ≡ p = one-above s k (count s) (ok .once k (omega arith) (part-sort s k (ok .fit p h) a)) (clock-inside c′) h a′ a in
       let t : ρ ≡ τ = clock-unique c (subst (λ (j : ℕ). ClockOf s j τ) o c′) in
       ap (handed (nodeAt s p)) t ∙ ap (λ (j : ℕ). handed (nodeAt s j) τ) (sym o) ∙ sym e)
       (came d)

@@ -14,7 +14,7 @@ use Rattle.table.specs.declared.operators.Row.{Row}
 use Rattle.table.specs.declared.nodes.Raw.{Raw}
 use Rattle.table.specs.Operators.{none, rowOf}
 use Rattle.table.specs.Nodes.{rawAt, rowAt, hitsOf, usesOf}
-use Rattle.table.specs.Computed.{slotOf, Counted}
+use Rattle.table.specs.Computed.{namedBy, slotOf, Counted}
 
 -- one more at x
 abbrev pub bump : List ℕ → ℕ → List ℕ
@@ -36,7 +36,7 @@ bump-le uses x k l = go (eqb x k) (getD-bump uses x k l)
 
 -- a slot below 120 is hit, and nothing else is
 slot-hits : (sort v k : ℕ) → k < 120 → _≡_ {A = ℕ} (cond (eqb (slotOf sort v) k) 1 0) (hitsOf sort v k)
-unfolding slotOf hitsOf
+unfolding slotOf namedBy hitsOf
 slot-hits sort v k l = go (eqb sort none) (ltb v 120) refl
   where
     past : (v : ℕ) → 120 ≤ v → eqb v k ≡ false

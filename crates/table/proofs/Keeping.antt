@@ -19,15 +19,15 @@ use Rattle.table.specs.declared.topped.Tops.{Tops}
 use Rattle.table.specs.Operators.{nodeOf, Decodes}
 use Rattle.table.specs.Nodes.{rawAt, nodeAt}
 use Rattle.table.specs.Flags.{nothing, topsAt, nodeTops, topsBelow, hollowNode, hollow}
-use Rattle.table.specs.Computed.{keptAt}
+use Rattle.table.specs.Computed.{namedBy}
 use Rattle.table.proofs.Counting.{filled}
 use Rattle.table.proofs.Topping.{long}
 
 module _ (s : List ℕ) (n k : ℕ) (h : k < n) (few : n ≤ 120) (done : List Tops) (d : take k done ≡ topsBelow s k)
     (z : (j : ℕ) → k ≤ j → getD done j nothing ≡ nothing) where
   -- what is kept of an operand is what is known of it
-  kept : (v : ℕ) → getD done (keptAt v) nothing ≡ topsAt (topsBelow s k) v
-  unfolding keptAt
+  kept : (v : ℕ) → getD done (namedBy v) nothing ≡ topsAt (topsBelow s k) v
+  unfolding namedBy
   kept v = go (ltb v 120) refl
     where
       past : k ≤ v → topsAt (topsBelow s k) v ≡ nothing
@@ -39,14 +39,14 @@ module _ (s : List ℕ) (n k : ℕ) (h : k < n) (few : n ≤ 120) (done : List T
           (λ (l : k ≤ v). z v l ∙ sym (past l)) (side v k)
       go false e = let g = ltb-false v 120 e in z 120 (omega arith) ∙ sym (past (omega arith))
 
-  module _ (w : Raw) (ew : w ≡ rawAt s k) (v : Node) (ev : Decodes w v) (p : ℕ) (ep : p ≡ keptAt (w .x)) where
+  module _ (w : Raw) (ew : w ≡ rawAt s k) (v : Node) (ev : Decodes w v) (p : ℕ) (ep : p ≡ namedBy (w .x)) where
     node : v ≡ nodeAt s k
     node = ev .made ∙ ap nodeOf ew
 
     left : getD done p nothing ≡ topsAt (topsBelow s k) (rawAt s k .x)
     left = rw (ep, ew) (kept (rawAt s k .x))
 
-    pub grown : length done ≡ 121 → (q : ℕ) → q ≡ keptAt (w .y) → (a : Tops) → a ≡ nodeTops v (getD done p nothing) (getD done q nothing)
+    pub grown : length done ≡ 121 → (q : ℕ) → q ≡ namedBy (w .y) → (a : Tops) → a ≡ nodeTops v (getD done p nothing) (getD done q nothing)
         → take (k + 1) (set done k a) ≡ topsBelow s (k + 1)
     unfolding topsBelow
     grown o q eq a e =

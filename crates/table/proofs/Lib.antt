@@ -9,6 +9,7 @@ pub mod Standing
 pub mod Topping
 pub mod Keeping
 pub mod Placing
+pub mod Built
 pub mod Clocking
 pub mod Within
 pub mod Checking

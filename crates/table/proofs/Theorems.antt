@@ -17,6 +17,7 @@ use Rattle.table.specs.Nodes.{sortAt, nodeAt, root}
 use Rattle.table.specs.Trees.{BooleanAt, SequenceAt, PropertyAt, p-strong, p-weak, p-imp, TreeAt, t-seq, t-prop, Ref, ClockOf, c-root, c-part, ClockAt}
 use Rattle.table.specs.Check.{Asks, by-strong, by-weak, by-implies, Checks}
 use Rattle.table.specs.Computed.{checked}
+use Rattle.table.proofs.Built.{Built}
 use Rattle.table.proofs.Reading.{uniqueB, uniqueS, uniqueP, uniqueC}
 use Rattle.table.proofs.Shapes.{down}
 use Rattle.table.proofs.Standing.{boolean-in, sequence-in, property-in}
@@ -24,7 +25,7 @@ use Rattle.table.proofs.Topping.{accepted-at}
 use Rattle.table.proofs.Clocking.{clock-exists, clock-unique, clock-inside, clock-known}
 use Rattle.table.proofs.Placing.{part-sort}
 use Rattle.table.proofs.Within.{tree-unique, read-under}
-use Rattle.table.proofs.Checking.{checks, checks-only, Built, sound, hollow-one, sorts}
+use Rattle.table.proofs.Checking.{checks, checks-only, sound, hollow-one, sorts}
 
 -- every table has one verdict
 pub exists : (s : List ℕ) → (v : Verdict) × Checks s v
@@ -51,7 +52,7 @@ module _ (s : List ℕ) (ok : Built s) where
   in-root = let l = ok .some in omega arith
 
   clocked-in : {k : ℕ} {ρ : Ref} → ClockOf s k ρ → k < count s
-  clocked-in c = clock-inside s (ok .some) (ok .fit) (ok .once) c
+  clocked-in c = clock-inside s ok c
 
   -- what has a clock is no boolean
   clocked-sort : {k : ℕ} {ρ : Ref} → ClockOf s k ρ → ¬ (sortAt s k ≡ boolean)
@@ -62,7 +63,7 @@ module _ (s : List ℕ) (ok : Built s) where
       → ClockOf s k ρ → ClockAt (nodeAt s) ρ κ → TreeAt (nodeAt s) k q → Within free t κ q
   read-there t d k ρ κ q c e f =
       read-under s (ok .fit) (λ j σ g. clocked-in g)
-      (λ j σ g. (tree-at j (clocked-in g) (clocked-sort g), clock-known s (ok .some) (ok .fit) (ok .once) g))
+      (λ j σ g. (tree-at j (clocked-in g) (clocked-sort g), clock-known s ok g))
       t d c e f
 
   -- a node that asks for the sequence r stands for a property that is accepted only if r is topped
@@ -97,8 +98,8 @@ module _ (s : List ℕ) (v : Verdict) (c : Checks s v) (z : v .number ≡ 0) whe
     pub one-clock : (sortAt s k ≡ sequence) ⊎ (sortAt s k ≡ property) → (ρ : Ref) × ClockOf s k ρ × ((σ : Ref) → ClockOf s k σ → ρ ≡ σ) × ExactlyOne (Clock ℕ) (ClockAt (nodeAt s) ρ)
     one-clock e =
         let l : sequence ≤ sortAt s k = ⊎-elim (λ (q : sortAt s k ≡ sequence). omega arith) (λ (q : sortAt s k ≡ property). omega arith) e in
-        let (ρ, d, (κ, m)) = clock-exists s (ok .some) (ok .fit) (ok .once) k h l in
-        (ρ, d, λ σ f. clock-unique s (ok .some) (ok .fit) (ok .once) d f, (κ, m, λ μ f. uniqueC m f))
+        let (ρ, d, (κ, m)) = clock-exists s ok k h l in
+        (ρ, d, λ σ f. clock-unique s ok d f, (κ, m, λ μ f. uniqueC m f))
 
   -- the root stands for exactly one tree, a sequence or a property
   pub one-root : ExactlyOne (Tree ℕ) (TreeAt (nodeAt s) (root s))

@@ -29,9 +29,13 @@ unfit s k = not (nodeFits s k)
 
 -- ---- 7
 
+-- the node that the byte v names, or 120, which no node is
+unfoldable pub namedBy : ℕ → ℕ
+namedBy v = cond (ltb v 120) v 120
+
 -- where the operand byte v is counted
 unfoldable pub slotOf : ℕ → ℕ → ℕ
-slotOf sort v = cond (eqb sort none) 120 (cond (ltb v 120) v 120)
+slotOf sort v = cond (eqb sort none) 120 (namedBy v)
 
 -- each of the counts is that of its node, in the n nodes
 unfoldable pub Counted : List ℕ → ℕ → List ℕ → Type 0
@@ -39,12 +43,6 @@ Counted s n uses = (k : ℕ) → k < 120 → getD uses k 0 ≡ usesOf s k n
 
 unfoldable pub astray : List ℕ → ℕ → ℕ → Bool
 astray s n k = not (ltb (sortAt s k) sequence) && (not (eqb (k + 1) n) && not (eqb (usesOf s k n) 1))
-
--- ---- 9
-
--- where the flags of the operand byte v are kept
-unfoldable pub keptAt : ℕ → ℕ
-keptAt v = cond (ltb v 120) v 120
 
 -- ---- all
 

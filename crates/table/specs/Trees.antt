@@ -54,7 +54,7 @@ pub data Ref : Type 0 where
   freeR : Ref
   onR : ℕ → Ref
 
--- the node that stands at an operand place of p is a sequence or a property, and is k
+-- k stands in an operand place of p that is for a sequence or a property
 pub data Part (s : List ℕ) (p k : ℕ) : Type 0 where
   at-x : sequence ≤ rowAt s p .x → rawAt s p .x ≡ k → Part s p k
   at-y : sequence ≤ rowAt s p .y → rawAt s p .y ≡ k → Part s p k

@@ -6,6 +6,7 @@ ghost use Prim.Native.Nat.{_+_, _*_, _≤_};
 ghost use lib.ListN.{length};
 ghost use Rattle.table.specs.Operators.{Decodes};
 ghost use Rattle.table.specs.Nodes.{rawAt, sortAt};
+ghost use Rattle.table.specs.Computed.{namedBy};
 
 // Operator, x, y and the fourth byte.
 pub struct Raw {
@@ -13,6 +14,15 @@ pub struct Raw {
     pub x: u8,
     pub y: u8,
     pub fourth: u8,
+}
+
+// The node that the byte v names, or 120, which no node is.
+pub fn named(v: u8) -> usize
+    ensures { λ r. ⌜ r ≡ namedBy v ⌝ }
+    ensures { λ r. ⌜ r ≤ 120 ⌝ }
+{
+    let i = wide(v);
+    if i < 120 { i } else { 120 }
 }
 
 // The four bytes of node k.

@@ -1,10 +1,10 @@
 // Refusal 7: the lowest sequence or property node, not the root, in other than one operand place.
+use crate::nodes::named;
 use crate::nodes::node_at;
 use crate::nodes::sort_at;
 use crate::operators::NONE;
 use crate::operators::SEQUENCE;
 use crate::operators::row_of;
-use crate::operators::wide;
 ghost use mathlib.Core.Path.{_≡_};
 ghost use Prim.Native.Nat.{_+_, _*_, _<_, _≤_};
 ghost use lib.ListN.{length};
@@ -17,11 +17,7 @@ fn slot(sort: u8, v: u8) -> usize
     ensures { λ r. ⌜ r ≡ slotOf sort v ⌝ }
     ensures { λ r. ⌜ r ≤ 120 ⌝ }
 {
-    let i = wide(v);
-    if sort == NONE {
-        return 120;
-    }
-    if i < 120 { i } else { 120 }
+    if sort == NONE { 120 } else { named(v) }
 }
 
 // In how many operand places of the n nodes each node stands.

@@ -4,14 +4,13 @@ use crate::nodes::Node;
 use crate::nodes::PropertyOp;
 use crate::nodes::SequenceOp;
 use crate::nodes::decode;
+use crate::nodes::named;
 use crate::nodes::node_at;
-use crate::operators::wide;
 ghost use mathlib.Core.Path.{_≡_};
 ghost use Prim.Native.Nat.{_+_, _*_, _≤_};
 ghost use lib.ListN.{length};
 ghost use Rattle.refusal.specs.Computed.{first};
 ghost use Rattle.table.specs.Flags.{thenTops, fusedTops, eitherTops, sequenceTops, nodeTops, hollowProperty, hollowNode, hollow};
-ghost use Rattle.table.specs.Computed.{keptAt};
 
 // What a sequence matches of a word of letters ⊤ alone: no letter; some letters, one or more.
 pub struct Tops {
@@ -118,15 +117,6 @@ fn is_hollow(v: Node, x: Tops) -> bool
     }
 }
 
-// Where the flags of the operand byte v are kept; past all nodes, where nothing ever is, if it names none.
-fn kept_at(v: u8) -> usize
-    ensures { λ r. ⌜ r ≡ keptAt v ⌝ }
-    ensures { λ r. ⌜ r ≤ 120 ⌝ }
-{
-    let i = wide(v);
-    if i < 120 { i } else { 120 }
-}
-
 // The lowest such node below n, or n: one pass, with the flags of the nodes below.
 pub fn first_hollow(b: &[u8], n: usize) -> usize
     requires { ⌜ (n ≤ 120) × (4 * n + 6 ≤ length (now b)) ⌝ }
@@ -137,8 +127,8 @@ pub fn first_hollow(b: &[u8], n: usize) -> usize
     while k < n {
         let raw = node_at(b, k);
         let v = decode(raw);
-        let x = done[kept_at(raw.x)];
-        let y = done[kept_at(raw.y)];
+        let x = done[named(raw.x)];
+        let y = done[named(raw.y)];
         if is_hollow(v, x) {
             return k;
         }

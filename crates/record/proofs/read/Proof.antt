@@ -16,7 +16,7 @@ use Rattle.refusal.proofs.Deciding.{skip, stop, through}
 use Rattle.refusal.proofs.Headings.{heading-stops, heading-passes, heading-long}
 use Rattle.record.specs.declared.Reading.{Reading}
 use Rattle.record.specs.Record.{samples, Reads}
-use Rattle.record.specs.Answer.{refusing}
+use Rattle.record.specs.Computed.{refusing}
 use Rattle.record.proofs.Deciding.{laterCases, cases, answered, refuses}
 use Rattle.record.proofs.read.Statement.{statement}
 use Rattle.record.proofs.read.Tie as tie

@@ -1,11 +1,11 @@
 -- `table::placed::slot` meets its contract.
 -- Assumes nothing.
 use borrow.Author.Needs.{needs}
-use borrow.Author.Tests.{eq-eqb, ne-eqb, lt-ltb, le-ltb}
+use borrow.Author.Tests.{eq-eqb, ne-eqb}
 use native.Mathlib.Omega.{arith}
 use mathlib.Core.Path.{_≡_}
-use Prim.Native.Nat.{ℕ, _<_, _≤_}
-use Rattle.table.specs.Computed.{slotOf}
+use Prim.Native.Nat.{ℕ}
+use Rattle.table.specs.Computed.{namedBy, slotOf}
 use Rattle.table.proofs.placed.slot.Statement.{statement}
 use Rattle.table.proofs.placed.slot.Tie as tie
 
@@ -14,14 +14,9 @@ module _ (sort v : ℕ) where
   unfolding slotOf
   none h = rw (eq-eqb _ _ h)
 
-  module _ (h : sort ≡ 0 → ⊥) (i : ℕ) (e : i ≡ v) where
-    node : i < 120 → i ≡ slotOf sort v
-    unfolding slotOf
-    node l = rw (ne-eqb _ _ h, ← e, lt-ltb _ _ l)
-
-    past : 120 ≤ i → 120 ≡ slotOf sort v
-    unfolding slotOf
-    past l = rw (ne-eqb _ _ h, ← e, le-ltb _ _ l)
+  operand : (sort ≡ 0 → ⊥) → (i : ℕ) → i ≡ namedBy v → i ≡ slotOf sort v
+  unfolding slotOf
+  operand h i e = rw (ne-eqb _ _ h, e)
 
 pub slot-spec : {M : Type 1} → statement M
 slot-spec =
@@ -29,5 +24,4 @@ slot-spec =
     (tie.spec
     (λ c κs. search needs)
     (λ c. (search none, omega arith))
-    (λ c. (search node, omega arith))
-    (λ c. (search past, omega arith)))
+    (λ c. (search operand, omega arith)))

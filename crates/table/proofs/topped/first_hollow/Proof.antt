@@ -30,10 +30,10 @@ loop-again c =
     let few : a .n ≤ 120 = omega arith in
     let w = x .before .before .node-at .ensures in
     let v = x .before .decode .ensures in
-    let p = x .kept-at .ensures .0 in (
+    let p = x .named .ensures .0 in (
       omega arith,
       simp length-set (omega arith),
-      grown (a .b .now) (a .n) (l .k) h few (l .done) (l .inv .2) (l .inv .3) _ w _ v _ p (l .inv .1) _ (y .before .kept-at2 .ensures .0) _ (c .node-tops .ensures),
+      grown (a .b .now) (a .n) (l .k) h few (l .done) (l .inv .2) (l .inv .3) _ w _ v _ p (l .inv .1) _ (y .before .named2 .ensures .0) _ (c .node-tops .ensures),
       still (l .k) (l .done) (l .inv .3) _,
       solid (a .b .now) (a .n) (l .k) h few (l .done) (l .inv .2) (l .inv .3) _ w _ v _ p (l .inv .4) _ (c .before .before .is-hollow .ensures) (c .before .if1 .left),
     )

@@ -1,5 +1,4 @@
--- A refusal of reading a record as the code answers it.
--- Assumes nothing.
+-- A refusal of reading a record as the code answers it: what the code is held to. Assumes nothing.
 use Prim.Native.Nat.{ℕ}
 use Rattle.refusal.specs.Computed.{refused}
 use Rattle.record.specs.declared.Reading.{Reading}

@@ -1,24 +1,24 @@
--- `table::topped::kept_at` meets its contract. Assumes nothing.
+-- `table::nodes::named` meets its contract. Assumes nothing.
 use borrow.Author.Needs.{needs}
 use borrow.Author.Tests.{lt-ltb, le-ltb}
 use native.Mathlib.Omega.{arith}
 use mathlib.Core.Path.{_≡_}
 use Prim.Native.Nat.{ℕ, _<_, _≤_}
-use Rattle.table.specs.Computed.{keptAt}
-use Rattle.table.proofs.topped.kept_at.Statement.{statement}
-use Rattle.table.proofs.topped.kept_at.Tie as tie
+use Rattle.table.specs.Computed.{namedBy}
+use Rattle.table.proofs.nodes.named.Statement.{statement}
+use Rattle.table.proofs.nodes.named.Tie as tie
 
 module _ (v i : ℕ) (e : i ≡ v) where
-  node : i < 120 → i ≡ keptAt v
-  unfolding keptAt
+  node : i < 120 → i ≡ namedBy v
+  unfolding namedBy
   node l = rw (← e, lt-ltb _ _ l)
 
-  past : 120 ≤ i → 120 ≡ keptAt v
-  unfolding keptAt
+  past : 120 ≤ i → 120 ≡ namedBy v
+  unfolding namedBy
   past l = rw (← e, le-ltb _ _ l)
 
-pub kept-at-spec : {M : Type 1} → statement M
-kept-at-spec =
+pub named-spec : {M : Type 1} → statement M
+named-spec =
     tie.close
     (tie.spec
     (λ c κs. search needs)
