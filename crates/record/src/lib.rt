@@ -7,6 +7,7 @@ ghost use Rattle.refusal.specs.Heading.{number};
 ghost use Rattle.record.specs.Record.{sampleAt, samples, Reads};
 ghost use Rattle.record.specs.Computed.{refusing};
 use refusal::Verdict;
+use refusal::wide;
 
 // What reading answers: the verdict, and how many samples it wrote.
 pub struct Reading {
@@ -15,17 +16,10 @@ pub struct Reading {
 }
 
 // A byte as a part of a sample.
-fn wide(x: u8) -> u64
+fn long(x: u8) -> u64
     ensures { λ r. ⌜ (r ≡ x) × (r < 256) ⌝ }
 {
     x as u64
-}
-
-// A byte as a count.
-fn count_of(x: u8) -> usize
-    ensures { λ r. ⌜ r ≡ x ⌝ }
-{
-    x as usize
 }
 
 // Half a sample: the 4 bytes from `at` on.
@@ -34,7 +28,7 @@ fn half_at(b: &[u8], at: usize) -> u64
     ensures { λ r. ⌜ r ≡ number (take 4 (drop at (now (b .entry)))) ⌝ }
     ensures { λ r. ⌜ r < 4294967296 ⌝ }
 {
-    wide(b[at]) + 256 * (wide(b[at + 1]) + 256 * (wide(b[at + 2]) + 256 * wide(b[at + 3])))
+    long(b[at]) + 256 * (long(b[at + 1]) + 256 * (long(b[at + 2]) + 256 * long(b[at + 3])))
 }
 
 // Sample i.
@@ -76,7 +70,7 @@ pub fn read(b: &[u8], out: &mut [u64]) -> Reading
     if v.number != 0 {
         return refused(v.number, v.node);
     }
-    let n = count_of(b[5]);
+    let n = wide(b[5]);
     if 63 < n {
         return refused(10, 0);
     }

@@ -13,6 +13,13 @@ pub struct Verdict {
     pub node: usize,
 }
 
+// A byte as a count or an index.
+pub fn wide(x: u8) -> usize
+    ensures { λ r. ⌜ r ≡ x ⌝ }
+{
+    x as usize
+}
+
 // Whether the bytes begin with the mark: SV and the letter.
 fn marked(b: &[u8], letter: u8) -> bool
     requires { ⌜ 6 ≤ length (now b) ⌝ }

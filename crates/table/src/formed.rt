@@ -3,7 +3,7 @@ use crate::nodes::node_at;
 use crate::nodes::sort_at;
 use crate::operators::NONE;
 use crate::operators::row_of;
-use crate::operators::wide;
+use refusal::wide;
 ghost use mathlib.Core.Path.{_≡_};
 ghost use Prim.Native.Nat.{_+_, _*_, _≤_};
 ghost use lib.ListN.{length};

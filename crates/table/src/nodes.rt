@@ -1,6 +1,6 @@
 // A node's four bytes, and the node that they stand for: one of three sorts, each with its own kinds.
 use crate::operators::row_of;
-use crate::operators::wide;
+use refusal::wide;
 ghost use mathlib.Core.Path.{_≡_};
 ghost use Prim.Native.Nat.{_+_, _*_, _≤_};
 ghost use lib.ListN.{length};

@@ -149,13 +149,6 @@ const PROPERTY_CLOCK: Row = Row {
     block: 0,
 };
 
-// A byte as an index.
-pub fn wide(x: u8) -> usize
-    ensures { λ r. ⌜ r ≡ x ⌝ }
-{
-    x as usize
-}
-
 // The row of an operator.
 pub fn row_of(op: u8) -> Row
     ensures { λ r. ⌜ r ≡ rowOf op ⌝ }
