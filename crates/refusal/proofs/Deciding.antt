@@ -10,7 +10,7 @@ use native.Mathlib.Nat.{sub-zero, zero-add, add-zero, not-suc-le-zero, le-of-suc
 use native.Mathlib.Omega.{arith}
 use lib.Dec.{T, ltb}
 use Rattle.tests.specs.Tests.{Tells}
-use Rattle.tests.proofs.Telling.{passes, passed}
+use Rattle.tests.proofs.Telling.{passes, passed, is-and, is-lt, is-test}
 use Rattle.refusal.specs.declared.Verdict.{Verdict}
 use Rattle.refusal.specs.First.{Refusal, LowestSuch, when, atLowest, Answers}
 use Rattle.refusal.specs.Computed.{firstOf, first, Case, at0, atFirst, firstCase, refused, accepted}
@@ -220,3 +220,33 @@ unfolding Answers
 reached [] ss v o a = (tt, a)
 reached (r ∷ rs) ss v o (inl a) = absurd (o .0 (a .0))
 reached (r ∷ rs) ss v o (inr (un, a)) = let (n, b) = reached rs ss v (o .1) a in ((un, n), b)
+
+-- where none of the first is given, the answer is one of the rest
+pub beyond : (rs ss : List Refusal) (v : Verdict) → NotGiven rs → Answers (rs ++ ss) v → Answers ss v
+unfolding Answers
+beyond [] ss v n a = a
+beyond (r ∷ rs) ss v n (inl a) = absurd (n .0 (v .node) (a .1))
+beyond (r ∷ rs) ss v n (inr (un, a)) = beyond rs ss v (n .1) a
+
+-- ---- an acceptance, where each refusal has a number above 0
+
+abbrev pub numbered : List Refusal → Bool
+numbered [] = true
+numbered (r ∷ rs) = ltb 0 (r .number) && numbered rs
+
+-- none is given
+pub none-given : (rs : List Refusal) → T (numbered rs) → (v : Verdict) → v .number ≡ 0 → Answers rs v → NotGiven rs × (v .node ≡ 0)
+unfolding Answers
+none-given [] t v z a = (tt, a .1)
+none-given (r ∷ rs) t v z (inl a) = let l = is-and (is-lt 0 (r .number)) (is-test (numbered rs)) .to t .0 in let e = a .0 in absurd (omega arith)
+none-given (r ∷ rs) t v z (inr (un, a)) =
+    let (n, e) = none-given rs (is-and (is-lt 0 (r .number)) (is-test (numbered rs)) .to t .1) v z a in ((un, n), e)
+
+pub not-given-append : (rs ss : List Refusal) → NotGiven (rs ++ ss) → NotGiven rs × NotGiven ss
+not-given-append [] ss n = (tt, n)
+not-given-append (r ∷ rs) ss n = let (a, b) = not-given-append rs ss (n .1) in ((n .0, a), b)
+
+pub answers-none : (rs : List Refusal) (v : Verdict) → NotGiven rs → v .number ≡ 0 → v .node ≡ 0 → Answers rs v
+unfolding Answers
+answers-none [] v n z e = (z, e)
+answers-none (r ∷ rs) v n z e = inr (n .0, answers-none rs v (n .1) z e)

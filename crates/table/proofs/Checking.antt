@@ -12,10 +12,10 @@ use lib.ListN.{length, take, drop}
 use Rattle.tests.specs.Tests.{Tells}
 use Rattle.tests.proofs.Telling.{is-map, is-or, is-and, is-not, is-eq, is-lt, passed}
 use Rattle.refusal.specs.declared.Verdict.{Verdict}
-use Rattle.refusal.specs.Heading.{count, headingRefusals}
+use Rattle.refusal.specs.Heading.{count, version, mark, headingRefusals}
 use Rattle.refusal.specs.First.{LowestSuch, when, atLowest, Answers}
-use Rattle.refusal.specs.Computed.{at0, atFirst, headingCases}
-use Rattle.refusal.proofs.Deciding.{Decided, Decides, Other, reached, decided-when, decided-lowest, decides-append, not-applied, none-below, answers, only}
+use Rattle.refusal.specs.Computed.{refused, accepted, at0, atFirst, headingCases}
+use Rattle.refusal.proofs.Deciding.{Decided, Decides, NotGiven, Other, reached, beyond, decided-when, decided-lowest, decides-append, not-applied, none-below, answers, only}
 use Rattle.refusal.proofs.Headings.{decides-heading}
 use Rattle.table.specs.declared.nodes.Node.{Node}
 use Rattle.table.specs.Operators.{boolean, sequence, property}
@@ -178,3 +178,37 @@ module _ (s : List ℕ) (v : Verdict) (c : Checks s v) where
   hollow-one z =
       let (b, a) = past-eight (λ i l m e. omega arith) in
       (b, ⊎-elim (λ q. q .1 .such) (λ q. absurd (let e = q .1 .0 in omega arith)) a)
+
+  -- a table that gets none of 1 to 8 is refused with 9 or accepted
+  pub nine-or-none : 6 ≤ length s → take 3 s ≡ mark 0x54 → version s ≡ 1 → Built s → (v .number ≡ 9) ⊎ (v ≡ accepted)
+  unfolding refusals Answers
+  nine-or-none l m o b =
+      let few : ¬ (120 < count s) = λ g. let f = b .few in omega arith in
+      let some : ¬ (count s ≡ 0) = λ e. let f = b .some in omega arith in
+      let long : length s ≡ 6 + 4 * count s = let f = b .long in omega arith in
+      let not-given : NotGiven (take 8 (refusals s)) = (
+        λ k q. let g = q .1 in omega arith,
+        (
+          λ k q. q .1 m,
+          (
+            λ k q. q .1 o,
+            (
+              λ k q. ⊎-elim some few (q .1),
+              (
+                λ k q. q .1 long,
+                (
+                  λ k q. q .such (b .fit k (q .below)),
+                  (
+                    λ k q. let a = q .such in a .places (b .once k (let i = a .inner in let j = q .below in omega arith) (heavy k (a .sort))),
+                    (λ k q. b .rooted (q .1), tt),
+                  ),
+                ),
+              ),
+            ),
+          ),
+        ),
+      ) in
+      ⊎-elim (λ q. inl (q .0)) (λ q. inr (λ i. refused (q .1 .0 i) (q .1 .1 i))) (beyond (take 8 (refusals s)) (drop 8 (refusals s)) v not-given c)
+    where
+      heavy : (k : ℕ) → (sortAt s k ≡ sequence) ⊎ (sortAt s k ≡ property) → sequence ≤ sortAt s k
+      heavy k z = ⊎-elim (λ (e : sortAt s k ≡ sequence). omega arith) (λ (e : sortAt s k ≡ property). omega arith) z

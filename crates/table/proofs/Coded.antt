@@ -8,8 +8,10 @@ use Prim.Native.Nat.{ℕ}
 use lib.Dec.{eqb}
 use Rattle.table.specs.declared.nodes.Raw.{Raw}
 use Rattle.table.specs.declared.nodes.Node.{Node}
-use Rattle.table.specs.declared.nodes.Node.the-variants.{Boolean}
-use Rattle.table.specs.declared.nodes.BooleanOp.the-variants.{Constant}
+use Rattle.table.specs.declared.nodes.Node.the-variants.{Boolean, Sequence, Property}
+use Rattle.table.specs.declared.nodes.BooleanOp.the-variants.{Constant, Signal, Not, And, Or}
+use Rattle.table.specs.declared.nodes.SequenceOp.the-variants.{Letter, Then, Fused, Either, Empty, Repeat, Clocked}
+use Rattle.table.specs.declared.nodes.PropertyOp.the-variants.{Strong, Weak, Negated, AnyOf, BothOf, Implies, Next, Until, Ticked}
 use Rattle.table.specs.Operators.{none, Entry, operators, unknown, lookup, rowOf, nodeOf, bytes, bytesOf, booleanBytes, sequenceBytes, propertyBytes, Written, Decodes}
 use Rattle.table.proofs.Lookup.{of-lookup}
 
@@ -63,3 +65,28 @@ coded n w =
 -- what the table of operators makes of the bytes is decoded from them
 pub decodes : (n : Raw) (r : Node) → r ≡ nodeOf n → Decodes n r
 decodes n r e = record { made = e; same = λ w. ap bytesOf e ∙ coded n w }
+
+-- and the bytes of a node are decoded to the node
+pub decoded : (v : Node) → nodeOf (bytesOf v) ≡ v
+unfolding nodeOf lookup operators bytesOf booleanBytes sequenceBytes propertyBytes
+decoded (Boolean (Constant x)) = refl
+decoded (Boolean (Signal x)) = refl
+decoded (Boolean (Not x)) = refl
+decoded (Boolean (And x y)) = refl
+decoded (Boolean (Or x y)) = refl
+decoded (Sequence (Letter x)) = refl
+decoded (Sequence (Then x y)) = refl
+decoded (Sequence (Fused x y)) = refl
+decoded (Sequence (Either x y)) = refl
+decoded (Sequence (Empty x)) = refl
+decoded (Sequence (Repeat x)) = refl
+decoded (Sequence (Clocked x y)) = refl
+decoded (Property (Strong x)) = refl
+decoded (Property (Weak x)) = refl
+decoded (Property (Negated x)) = refl
+decoded (Property (AnyOf x y)) = refl
+decoded (Property (BothOf x y)) = refl
+decoded (Property (Implies x y)) = refl
+decoded (Property (Next x)) = refl
+decoded (Property (Until x y)) = refl
+decoded (Property (Ticked x y)) = refl

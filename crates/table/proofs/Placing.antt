@@ -5,14 +5,15 @@ use borrow.Author.Tests.{eqb-true, eqb-false, eq-eqb, ne-eqb}
 use mathlib.Core.Path.{_≡_, refl, _∙_, sym, ap, subst}
 use mathlib.Core.Logic.{⊎-elim}
 use mathlib.Core.Bool.{Bool, true, false, cond, _&&_, _||_}
-use mathlib.Core.List.{List, [], _∷_}
+use mathlib.Core.List.{List}
 use Prim.Native.Nat.{ℕ, zero, suc, _+_, _<_, _≤_}
 use lib.Dec.{T, eqb, leb}
-use Rattle.tests.proofs.Telling.{is-and, is-or, is-le, is-test, side}
+use Rattle.tests.proofs.Telling.{is-and, is-or, is-le, side}
 use Rattle.table.specs.declared.operators.Row.{Row}
-use Rattle.table.specs.Operators.{none, sequence, property, Entry, operators, unknown, lookup, rowOf}
+use Rattle.table.specs.Operators.{none, sequence, property, operators, rowOf}
 use Rattle.table.specs.Nodes.{rawAt, rowAt, sortAt, hitsOf, placesOf, usesOf, WellFormed}
 use Rattle.table.specs.Trees.{Part, at-x, at-y}
+use Rattle.table.proofs.Lookup.{row-passes}
 
 -- ---- a place that is hit holds the node
 
@@ -31,38 +32,22 @@ hits-one sort v h = rw (ne-eqb sort none h, eq-eqb v v refl)
 
 -- ---- the table of operators: a node with a sequence or a property in an operand place is itself one, and no sort is past the last
 
-fine : Entry → Bool
-fine e = leb (e .row .own) property && ((leb (e .row .x) 1 || leb sequence (e .row .own)) && (leb (e .row .y) 1 || leb sequence (e .row .own)))
+fine : Row → Bool
+fine r = leb (r .own) property && ((leb (r .x) 1 || leb sequence (r .own)) && (leb (r .y) 1 || leb sequence (r .own)))
 
 abbrev Fine : Row → Type 0
 Fine r = (r .own ≤ property) × (sequence ≤ r .x → sequence ≤ r .own) × (sequence ≤ r .y → sequence ≤ r .own)
 
-fine-of : (e : Entry) → T (fine e) → Fine (e .row)
+fine-of : (r : Row) → T (fine r) → Fine r
 unfolding fine
-fine-of e t =
-    let own = e .row .own in
-    let (a, (b, c)) = is-and (is-le own property) (is-and (is-or (is-le (e .row .x) 1) (is-le sequence own)) (is-or (is-le (e .row .y) 1) (is-le sequence own))) .to t in
-    (a, λ h. ⊎-elim (λ (l : e .row .x ≤ 1). absurd (omega arith)) (λ l. l) b, λ h. ⊎-elim (λ (l : e .row .y ≤ 1). absurd (omega arith)) (λ l. l) c)
-
-all-fine : List Entry → Bool
-all-fine [] = true
-all-fine (e ∷ es) = fine e && all-fine es
-
--- the row that is looked up is one of the table's, or the unknown one
-fine-in : (es : List Entry) → T (all-fine es) → (op : ℕ) → Fine (lookup (λ e. e .row) unknown es op)
-unfolding all-fine lookup
-fine-in [] t op = (omega arith, λ h. absurd (omega arith), λ h. absurd (omega arith))
-fine-in (e ∷ es) t op =
-    let (f, r) = is-and (is-test (fine e)) (is-test (all-fine es)) .to t in
-    go (fine-of e f) (fine-in es r op) (eqb op (e .code))
-  where
-    go : Fine (e .row) → Fine (lookup (λ e. e .row) unknown es op) → (b : Bool) → Fine (cond b (e .row) (lookup (λ e. e .row) unknown es op))
-    go f r true = f
-    go f r false = r
+fine-of r t =
+    let own = r .own in
+    let (a, (b, c)) = is-and (is-le own property) (is-and (is-or (is-le (r .x) 1) (is-le sequence own)) (is-or (is-le (r .y) 1) (is-le sequence own))) .to t in
+    (a, λ h. ⊎-elim (λ (l : r .x ≤ 1). absurd (omega arith)) (λ l. l) b, λ h. ⊎-elim (λ (l : r .y ≤ 1). absurd (omega arith)) (λ l. l) c)
 
 pub fine-row : (op : ℕ) → Fine (rowOf op)
-unfolding rowOf operators all-fine fine
-fine-row = fine-in operators tt
+unfolding operators fine
+fine-row op = fine-of (rowOf op) (row-passes fine tt tt op)
 
 module _ (s : List ℕ) (x : ℕ) where
   -- ---- the operand places of one node, and of two, are among all

@@ -10,7 +10,7 @@ use Rattle.meaning.specs.Parts.{Tree, seq, prop, Within}
 use Rattle.meaning.specs.Syntax.{Bexp, Seq, Prop, strong, weak, implies, Clock, free}
 use Rattle.meaning.specs.Meaning.{Topped, Accepted}
 use Rattle.meaning.specs.Signal.{signal}
-use Rattle.meaning.proofs.Entering.{within-accepted}
+use Rattle.meaning.proofs.Entering.{AcceptedTree, within-accepted}
 use Rattle.table.specs.declared.nodes.Node.{Node}
 use Rattle.table.specs.Operators.{boolean, sequence, property}
 use Rattle.table.specs.Nodes.{sortAt, nodeAt, root}
@@ -114,11 +114,19 @@ module _ (s : List ℕ) (v : Verdict) (c : Checks s v) (z : v .number ≡ 0) whe
   pub accepted-root : (P : Prop ℕ) → PropertyAt (nodeAt s) (root s) P → Accepted signal free P
   accepted-root P d = accepted-at s (count s) (ok .fit) (sound s v c z .solid) d (in-root s ok) free
 
--- ---- and of one that is refused with 9: the property at its root is not accepted by the meaning
+-- ---- and of one that is refused with 9
 
-pub refused-root : (s : List ℕ) (v : Verdict) → Checks s v → v .number ≡ 9 → (P : Prop ℕ) → PropertyAt (nodeAt s) (root s) P → ¬ Accepted signal free P
-refused-root s v c z P d a =
+refused-tree : (s : List ℕ) (v : Verdict) → Checks s v → v .number ≡ 9 → (t : Tree ℕ) → TreeAt (nodeAt s) (root s) t → ¬ AcceptedTree signal free t
+refused-tree s v c z t d a =
     let (ok, h) = hollow-one s v c z in
     let (Q, f, topped) = asking s ok (v .node) (clocked-in s ok (h .clocked)) (h .asks) refl (h .stands) in
-    let w = read-there s ok (prop P) (t-prop d) (v .node) (h .ref) (h .clock) (prop Q) (h .clocked) (h .means) (t-prop f) in
+    let w = read-there s ok t d (v .node) (h .ref) (h .clock) (prop Q) (h .clocked) (h .means) (t-prop f) in
     h .never (topped (h .clock) (within-accepted signal w a))
+
+-- its root is no sequence,
+pub refused-sequence : (s : List ℕ) (v : Verdict) → Checks s v → v .number ≡ 9 → (r : Seq ℕ) → ¬ SequenceAt (nodeAt s) (root s) r
+refused-sequence s v c z r d = refused-tree s v c z (seq r) (t-seq d) tt
+
+-- and the property at its root is not accepted by the meaning
+pub refused-root : (s : List ℕ) (v : Verdict) → Checks s v → v .number ≡ 9 → (P : Prop ℕ) → PropertyAt (nodeAt s) (root s) P → ¬ Accepted signal free P
+refused-root s v c z P d a = refused-tree s v c z (prop P) (t-prop d) a
