@@ -1,0 +1,161 @@
+-- The rewritten table gets none of refusals 1 to 9, where it has at most 120 nodes; and the node that stands for the root is its root. Assumes nothing.
+use native.Mathlib.Omega.{arith}
+use native.Mathlib.Nat.{le-refl}
+use borrow.Author.Tests.{eqb-true, ne-eqb}
+use mathlib.Core.Path.{_≡_, refl, _∙_, sym, ap, subst}
+use mathlib.Core.Logic.{⊎-elim}
+use mathlib.Core.Bool.{Bool, true, false, cond}
+use mathlib.Core.List.{List}
+use Prim.Native.Nat.{ℕ, suc, _-_, _<_, _≤_}
+use lib.Dec.{eqb}
+use Rattle.refusal.specs.Heading.{count}
+use Rattle.refusal.specs.Computed.{accepted}
+use Rattle.meaning.specs.Syntax.{Seq, Prop, free}
+use Rattle.meaning.specs.Signal.{signal}
+use Rattle.meaning.specs.Rewriting.{rewS, rewP}
+use Rattle.meaning.proofs.Rewriting.{accepted-rew}
+use Rattle.table.specs.Operators.{boolean, sequence}
+use Rattle.table.specs.Nodes.{rowAt, sortAt, nodeAt, usesOf, root}
+use Rattle.table.specs.Trees.{SequenceAt, PropertyAt, Ref, c-free}
+use Rattle.table.specs.Check.{Checks}
+use Rattle.table.specs.Computed.{checked}
+use Rattle.table.proofs.Built.{Built}
+use Rattle.table.proofs.Standing.{sequence-in, property-in}
+use Rattle.table.proofs.Checking.{Sound, checks, nine-or-none, sorts}
+use Rattle.table.proofs.Topping.{accepted-at}
+use Rattle.table.proofs.Theorems.{refused-sequence, refused-root}
+use Rattle.rewrite.specs.Clocks.{Clocks}
+use Rattle.rewrite.specs.Numbers.{isBoolean, isClock, lengthOf, newCount, numberOf}
+use Rattle.rewrite.specs.Tables.{newTable}
+use Rattle.rewrite.proofs.Timing.{root-clock}
+use Rattle.rewrite.proofs.Numbering.{none-under, start-fits, block-long}
+use Rattle.rewrite.proofs.Cells.{length-table, last-at, stands-sort}
+use Rattle.rewrite.proofs.Ordering.{is-other, before, stands-in, stands-past, found}
+use Rattle.rewrite.proofs.Trees.{sequence-stands, property-stands}
+use Rattle.rewrite.proofs.Forming.{new-fit}
+use Rattle.rewrite.proofs.Tallies.{top-unused}
+use Rattle.rewrite.proofs.Places.{uses-new}
+
+module _ (s : List ℕ) (sound : Sound s) (clock : ℕ → Ref) (right : Clocks s clock) where
+  abbrev t : List ℕ
+  t = newTable s clock
+
+  abbrev m : ℕ
+  m = newCount s clock
+
+  abbrev ν : ℕ → ℕ
+  ν = numberOf s clock
+
+  ok : Built s
+  ok = sound .formed
+
+  root-in : root s < count s
+  root-in = let l = ok .some in omega arith
+
+  root-sort : sequence ≤ sortAt s (root s)
+  root-sort = let r = ok .rooted in let k = ok .fit (root s) root-in .known in omega arith
+
+  -- ---- the root
+
+  root-new : ν (root s) < m
+  root-new = stands-in s clock (ok .fit) (root s) root-in
+
+  -- a node with new nodes is no clock node
+  blocked : (k : ℕ) → 0 < lengthOf s clock k → isClock s k ≡ false
+  unfolding isClock
+  blocked k l = ne-eqb (rowAt s k .block) 0 (λ e. let z = none-under (clock k) (rowAt s k .block) e in omega arith)
+
+  -- the last node stands for no boolean
+  top-other : (k : ℕ) → k < count s → ν k ≡ m - 1 → sequence ≤ sortAt s k
+  top-other k h q = go (isBoolean s k) refl
+    where
+      go : (b : Bool) → isBoolean s k ≡ b → sequence ≤ sortAt s k
+      go true e =
+          let l = rw e at (before s clock (ok .fit) k (count s) h (le-refl _)) in
+          let o = stands-past s clock (ok .fit) (root s) root-in root-sort in
+          let p = root-new in
+          absurd (let w : ⊥ = omega arith in w)
+      go false e = is-other s k (ok .fit k h) e
+
+  -- and is the last of a block
+  top-sort : sequence ≤ sortAt t (m - 1)
+  top-sort =
+      let p = root-new in
+      let (k, i, h, a, e) = found s clock (ok .fit) (m - 1) (omega arith) in
+      let z = block-long s clock (ok .fit) k h in
+      let f = start-fits s clock k h in
+      let (l, o) = last-at s clock (ok .fit) k h (blocked k (omega arith)) in
+      let q : ν k ≡ m - 1 = omega arith in
+      let u = stands-sort s clock (ok .fit) k h in
+      let v = top-other k h q in
+      subst (λ (x : ℕ). sequence ≤ sortAt t x) q (omega arith)
+
+  -- so the node that stands for the root is the last
+  pub root-last : ν (root s) ≡ m - 1
+  root-last =
+      let p = root-new in
+      let u = uses-new s ok clock right (m - 1) (omega arith) top-sort in
+      let z = top-unused t (m - 1) m (new-fit s ok clock right) (omega arith) in
+      go (eqb (ν (root s)) (m - 1)) refl (omega arith)
+    where
+      go : (b : Bool) → eqb (ν (root s)) (m - 1) ≡ b → _≡_ {A = ℕ} (cond b 1 0) 1 → ν (root s) ≡ m - 1
+      go true e c = eqb-true (ν (root s)) (m - 1) e
+      go false e c = absurd (let w : ⊥ = omega arith in w)
+
+  -- ---- what the new table has
+
+  pub count-new : count t ≡ m
+  unfolding newTable
+  count-new = refl
+
+  root-at : root t ≡ ν (root s)
+  root-at = let c = count-new in let r = root-last in omega arith
+
+  once-new : (q : ℕ) → suc q < m → sequence ≤ sortAt t q → usesOf t q m ≡ 1
+  once-new q h l =
+      let u = uses-new s ok clock right q (omega arith) l in
+      let r = root-last in
+      let e = ne-eqb (ν (root s)) q (λ z. omega arith) in
+      let c : _≡_ {A = ℕ} (cond (eqb (ν (root s)) q) 1 0) 0 = rw e in
+      omega arith
+
+  built : m ≤ 120 → Built t
+  unfolding newTable
+  built h = record {
+    some = let p = root-new in omega arith;
+    few = h;
+    long = length-table s clock (ok .fit);
+    fit = new-fit s ok clock right;
+    once = once-new;
+    rooted = λ e. let r = root-sort in let c = stands-sort s clock (ok .fit) (root s) root-in in let z : sortAt t (ν (root s)) ≡ boolean = ap (sortAt t) (sym root-at) ∙ e in omega arith;
+  }
+
+  -- ---- what its root stands for
+
+  pub sequence-root : (r : Seq ℕ) → SequenceAt (nodeAt s) (root s) r → SequenceAt (nodeAt t) (root t) (rewS free r)
+  sequence-root r d =
+      subst (λ (k : ℕ). SequenceAt (nodeAt t) k (rewS free r)) (sym root-at) (sequence-stands s ok clock right d root-in (root-clock s ok clock right) c-free)
+
+  pub property-root : (P : Prop ℕ) → PropertyAt (nodeAt s) (root s) P → PropertyAt (nodeAt t) (root t) (rewP free P)
+  property-root P d =
+      subst (λ (k : ℕ). PropertyAt (nodeAt t) k (rewP free P)) (sym root-at) (property-stands s ok clock right d root-in (root-clock s ok clock right) c-free)
+
+  -- ---- the new table is accepted
+
+  -- 9 is given for no sequence, and for no property that the meaning accepts
+  not-nine : Checks t (checked t) → ¬ (checked t .number ≡ 9)
+  not-nine c z =
+      ⊎-elim
+      (λ e. let (r, d) = sequence-in s (count s) (ok .fit) (count s) (root s) root-in root-in e in refused-sequence t (checked t) c z (rewS free r) (sequence-root r d))
+      (λ e.
+      let (P, d) = property-in s (count s) (ok .fit) (count s) (root s) root-in root-in e in
+      refused-root t (checked t) c z (rewP free P) (property-root P d)
+      (accepted-rew signal free P (accepted-at s (count s) (ok .fit) (sound .solid) d root-in free)))
+      (sorts s (root s) (ok .fit (root s) root-in) (ok .rooted))
+
+  pub new-checks : m ≤ 120 → Checks t accepted
+  unfolding newTable
+  new-checks h =
+      let c = checks t (checked t) refl in
+      let b = built h in
+      ⊎-elim (λ z. absurd (not-nine c z)) (λ e. subst (Checks t) e c) (nine-or-none t (checked t) c (let l = b .long in omega arith) refl refl b)

@@ -1,0 +1,187 @@
+-- The nodes of the rewritten table: node i of the block of k is number startOf k + i, and the node that stands for k has its sort. Assumes nothing.
+use native.Mathlib.Omega.{arith}
+use native.Mathlib.Nat.{not-suc-le-zero, eq-or-lt-of-le, le-of-suc-le-suc, le-refl}
+use borrow.Author.Tests.{eqb-false}
+use mathlib.Core.Path.{_≡_, refl, _∙_, sym, ap}
+use mathlib.Core.Logic.{⊎-elim}
+use mathlib.Core.Bool.{Bool, true, false, not, cond, true≢false}
+use mathlib.Core.List.{List, [], _∷_, _++_}
+use Prim.Native.Nat.{ℕ, zero, suc, _+_, _*_, _-_, _<_, _≤_}
+use lib.Dec.{eqb}
+use lib.ListN.{length, getD, length-append, List·getD-append}
+use lib.Seq.{getD-append-add}
+use Rattle.refusal.specs.Heading.{count}
+use Rattle.table.specs.declared.nodes.Raw.{Raw}
+use Rattle.table.specs.Operators.{operators, lookup, rowOf, bytesOf, booleanBytes, sequenceBytes, propertyBytes}
+use Rattle.table.specs.Nodes.{rawAt, rowAt, sortAt, WellFormed}
+use Rattle.table.specs.Trees.{Ref}
+use Rattle.rewrite.specs.Numbers.{sum, isBoolean, isOther, isClock, lengthOf, newCount, taken, startOf, numberOf}
+use Rattle.rewrite.specs.Blocks.{movedNode, blockUnder}
+use Rattle.rewrite.specs.Tables.{heading, fourBytes, encoded, blockOf, laid, newNodes, newTable}
+use Rattle.rewrite.specs.Computed.{blank}
+use Rattle.rewrite.proofs.Sums.{sum-le}
+use Rattle.rewrite.proofs.Viewing.{single-is, letter-is, next-is, until-is, View, of-none, of-single, of-letter, of-next, of-until, view}
+use Rattle.rewrite.proofs.Timing.{clock-row, operand-below}
+use Rattle.rewrite.proofs.Numbering.{some-under, count-split, start-fits, block-long, laid-long, stands-last, stands-operand}
+
+-- ---- bytes
+
+pub length-encoded : (rs : List Raw) → length (encoded rs) ≡ 4 * length rs
+unfolding encoded
+length-encoded [] = refl
+length-encoded (r ∷ rs) = let h = length-encoded rs in omega arith
+
+-- byte j of node q
+encoded-at : (rs : List Raw) (q j : ℕ) → j < 4 → q < length rs → getD (encoded rs) (4 * q + j) 0 ≡ getD (fourBytes (getD rs q blank)) j 0
+unfolding encoded
+encoded-at [] q j l h = absurd (not-suc-le-zero h)
+encoded-at (r ∷ rs) zero j l h = let e : 4 * 0 + j ≡ j = omega arith in rw e (List·getD-append (fourBytes r) (encoded rs) 0 j l)
+encoded-at (r ∷ rs) (suc q) j l h =
+    let e : 4 * suc q + j ≡ suc (suc (suc (suc (4 * q + j)))) = omega arith in rw e (encoded-at rs q j l (le-of-suc-le-suc h))
+
+module _ (m : ℕ) (rs : List Raw) (q : ℕ) (h : q < length rs) where
+  byte : (i j : ℕ) → j < 4 → i ≡ 4 * q + 6 + j → getD (heading m ++ encoded rs) i 0 ≡ getD (fourBytes (getD rs q blank)) j 0
+  byte i j l e =
+      let z : i ≡ 6 + (4 * q + j) = omega arith in
+      rw z (getD-append-add (heading m) (encoded rs) (4 * q + j) 0 ∙ encoded-at rs q j l h)
+
+  -- node q of a heading and the bytes of nodes
+  raw-of : rawAt (heading m ++ encoded rs) q ≡ getD rs q blank
+  raw-of =
+      let a = byte (4 * q + 6) 0 (omega arith) (omega arith) in
+      let b = byte (4 * q + 6 + 1) 1 (omega arith) refl in
+      let c = byte (4 * q + 6 + 2) 2 (omega arith) refl in
+      let d = byte (4 * q + 6 + 3) 3 (omega arith) refl in
+      λ i. record { op = a i; x = b i; y = c i; fourth = d i }
+
+-- ---- the sort of a block's last node
+
+abbrev lastOwn : List Raw → ℕ
+lastOwn us = rowOf (getD us (length us - 1) blank .op) .own
+
+last-sort : (ν : ℕ → ℕ) (ρ : Ref) (at : ℕ) (r : Raw) → eqb (rowOf (r .op) .block) 0 ≡ false → lastOwn (blockUnder ν ρ at r) ≡ rowOf (r .op) .own
+unfolding movedNode rowOf lookup operators bytesOf booleanBytes sequenceBytes propertyBytes
+last-sort ν ρ at r e = go (view ρ (r .op))
+  where
+    go : View ρ (r .op) → lastOwn (blockUnder ν ρ at r) ≡ rowOf (r .op) .own
+    go (of-none z) = absurd (true≢false (sym z ∙ e))
+    go (of-single z q) = ap lastOwn (single-is ν ρ at r z q)
+    go (of-letter c u o) = ap lastOwn (letter-is ν ρ at r c u o) ∙ ap (λ (p : ℕ). rowOf p .own) (sym o)
+    go (of-next c u o) = ap lastOwn (next-is ν ρ at r c u o) ∙ ap (λ (p : ℕ). rowOf p .own) (sym o)
+    go (of-until c u o) = ap lastOwn (until-is ν ρ at r c u o) ∙ ap (λ (p : ℕ). rowOf p .own) (sym o)
+
+-- ---- the list of new nodes
+
+past : {A : Type 0} (p q : List A) (n i : ℕ) (d : A) → length p ≡ n → getD (p ++ q) (n + i) d ≡ getD q i d
+past p q n i d h = rw (← h) (getD-append-add p q i d)
+
+module _ (s : List ℕ) (clock : ℕ → Ref) (fit : (k : ℕ) → k < count s → WellFormed s k) where
+  pub length-new : length (newNodes s clock) ≡ newCount s clock
+  length-new =
+      length-append (laid s clock (isBoolean s) (count s)) (laid s clock (isOther s) (count s))
+      ∙ (let p = laid-long s clock fit (isBoolean s) (count s) (le-refl _) in
+      let q = laid-long s clock fit (isOther s) (count s) (le-refl _) in
+      let e = count-split s clock (count s) in
+      omega arith)
+
+  pub length-table : length (newTable s clock) ≡ 4 * newCount s clock + 6
+  unfolding newTable
+  length-table =
+      length-append (heading (newCount s clock)) (encoded (newNodes s clock))
+      ∙ (let a = length-encoded (newNodes s clock) in let b = length-new in omega arith)
+
+  pub raw-at : (q : ℕ) → q < newCount s clock → rawAt (newTable s clock) q ≡ getD (newNodes s clock) q blank
+  unfolding newTable
+  raw-at q h = raw-of (newCount s clock) (newNodes s clock) q (let e = length-new in omega arith)
+
+  module _ (test : ℕ → Bool) (k i : ℕ) (passes : test k ≡ true) (l : i < length (blockOf s clock k)) where
+    -- what k gives ends before what a later node gives
+    ends : (j : ℕ) → k < j → j ≤ count s → taken s clock test k + length (blockOf s clock k) ≤ taken s clock test j
+    unfolding sum
+    ends j g h =
+        let z = block-long s clock fit k (omega arith) in
+        let t = rw passes at (sum-le (λ j. cond (test j) (lengthOf s clock j) 0) (suc k) j g) in
+        omega arith
+
+    laid-at : (j : ℕ) → k < j → j ≤ count s → getD (laid s clock test j) (taken s clock test k + i) blank ≡ getD (blockOf s clock k) i blank
+    unfolding laid
+    laid-at zero g h = absurd (not-suc-le-zero g)
+    laid-at (suc j) g h =
+        let p = laid-long s clock fit test j (omega arith) in
+        ⊎-elim
+        (λ (e : k ≡ j).
+        rw (← e, passes) (past (laid s clock test k) (blockOf s clock k) (taken s clock test k) i blank (laid-long s clock fit test k (omega arith))))
+        (λ (f : k < j).
+        let z = ends j f (omega arith) in
+        List·getD-append (laid s clock test j) (cond (test j) (blockOf s clock j) []) blank (taken s clock test k + i) (omega arith) ∙ laid-at j f (omega arith))
+        (eq-or-lt-of-le (le-of-suc-le-suc g))
+
+  new-at : (k i : ℕ) → k < count s → i < length (blockOf s clock k) → getD (newNodes s clock) (startOf s clock k + i) blank ≡ getD (blockOf s clock k) i blank
+  unfolding startOf
+  new-at k i h l = go (isBoolean s k) refl
+    where
+      first : List Raw
+      first = laid s clock (isBoolean s) (count s)
+
+      later : List Raw
+      later = laid s clock (isOther s) (count s)
+
+      first-long : length first ≡ taken s clock (isBoolean s) (count s)
+      first-long = laid-long s clock fit (isBoolean s) (count s) (le-refl _)
+
+      go : (b : Bool) → isBoolean s k ≡ b
+          → getD (first ++ later) (cond b (taken s clock (isBoolean s) k) (taken s clock (isBoolean s) (count s) + taken s clock (isOther s) k) + i) blank ≡ getD (blockOf s clock k) i blank
+      go true e =
+          let p = first-long in
+          let z = ends (isBoolean s) k i e l (count s) h (le-refl _) in
+          List·getD-append first later blank (taken s clock (isBoolean s) k + i) (omega arith) ∙ laid-at (isBoolean s) k i e l (count s) h (le-refl _)
+      go false e =
+          let a : taken s clock (isBoolean s) (count s) + taken s clock (isOther s) k + i ≡ taken s clock (isBoolean s) (count s) + (taken s clock (isOther s) k + i) = omega arith in
+          rw a
+          (past first later (taken s clock (isBoolean s) (count s)) (taken s clock (isOther s) k + i) blank first-long
+          ∙ laid-at (isOther s) k i (ap not e) l (count s) h (le-refl _))
+
+  -- ---- node i of k's block, in the rewritten table
+
+  module _ (k i : ℕ) (h : k < count s) (l : i < length (blockOf s clock k)) where
+    cell-in : startOf s clock k + i < newCount s clock
+    cell-in = let f = start-fits s clock k h in let z = block-long s clock fit k h in omega arith
+
+    pub cell-at : rawAt (newTable s clock) (startOf s clock k + i) ≡ getD (blockOf s clock k) i blank
+    cell-at = raw-at (startOf s clock k + i) cell-in ∙ new-at k i h l
+
+    pub cell-sort : sortAt (newTable s clock) (startOf s clock k + i) ≡ rowOf (getD (blockOf s clock k) i blank .op) .own
+    unfolding sortAt
+    cell-sort = ap (λ (r : Raw). rowOf (r .op) .own) cell-at
+
+  -- ---- the node that stands for k
+
+  -- is the last node of its block
+  pub last-at : (k : ℕ) → k < count s → isClock s k ≡ false
+      → (0 < length (blockOf s clock k)) × (numberOf s clock k ≡ startOf s clock k + (length (blockOf s clock k) - 1))
+  unfolding isClock
+  last-at k h e =
+      let z = block-long s clock fit k h in
+      let p = some-under (clock k) (rowAt s k .block) (eqb-false (rowAt s k .block) 0 e) in
+      (omega arith, stands-last s clock fit k h e ∙ omega arith)
+
+  -- and has its sort
+  sort-in : (f k : ℕ) → k < f → k < count s → sortAt (newTable s clock) (numberOf s clock k) ≡ sortAt s k
+  unfolding sortAt isClock
+  sort-in zero k l h = absurd (not-suc-le-zero l)
+  sort-in (suc f) k l h = go (λ x. sort-in f x) (isClock s k) refl
+    where
+      go : ((x : ℕ) → x < f → x < count s → sortAt (newTable s clock) (numberOf s clock x) ≡ sortAt s x) → (c : Bool) → isClock s k ≡ c
+          → sortAt (newTable s clock) (numberOf s clock k) ≡ sortAt s k
+      go ih true c =
+          let b = operand-below s k (fit k h) c in
+          let (o, y, u) = clock-row s k (fit k h) c in
+          ap (sortAt (newTable s clock)) (stands-operand s clock fit k h c) ∙ ih (rawAt s k .y) (omega arith) (omega arith)
+          ∙ fit k h .y .sorted (λ z. omega arith) ∙ y
+      go ih false c =
+          let (p, o) = last-at k h c in
+          ap (sortAt (newTable s clock)) o ∙ cell-sort k (length (blockOf s clock k) - 1) h (omega arith)
+          ∙ last-sort (numberOf s clock) (clock k) (startOf s clock k) (rawAt s k) c
+
+  pub stands-sort : (k : ℕ) → k < count s → sortAt (newTable s clock) (numberOf s clock k) ≡ sortAt s k
+  stands-sort k h = sort-in (count s) k h h

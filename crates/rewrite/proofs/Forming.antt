@@ -1,0 +1,154 @@
+-- Every node of the rewritten table is well formed, and none is a clock node. Assumes nothing.
+use native.Mathlib.Omega.{arith}
+use native.Mathlib.Nat.{add-zero}
+use borrow.Author.Tests.{eqb-true, eqb-false, ne-eqb}
+use mathlib.Core.Path.{_≡_, refl, _∙_, sym, ap, subst}
+use mathlib.Core.Logic.{⊎-elim}
+use mathlib.Core.Bool.{Bool, true, false, cond, true≢false}
+use mathlib.Core.List.{List}
+use Prim.Native.Nat.{ℕ, _+_, _<_, _≤_}
+use lib.Dec.{eqb}
+use lib.ListN.{length, getD}
+use Rattle.tests.proofs.Telling.{side}
+use Rattle.refusal.specs.Heading.{count}
+use Rattle.table.specs.declared.nodes.Raw.{Raw}
+use Rattle.table.specs.Operators.{none, boolean, sequence, property, operators, lookup, rowOf}
+use Rattle.table.specs.Nodes.{rawAt, rowAt, sortAt, Operand, WellFormed}
+use Rattle.table.specs.Trees.{Ref, onR}
+use Rattle.table.proofs.Built.{Built}
+use Rattle.table.proofs.Placing.{fine-row}
+use Rattle.rewrite.specs.Clocks.{Clocks}
+use Rattle.rewrite.specs.Numbers.{isBoolean, isClock, newCount, startOf, numberOf}
+use Rattle.rewrite.specs.Blocks.{moved, movedNode}
+use Rattle.rewrite.specs.Tables.{blockOf, newTable}
+use Rattle.rewrite.specs.Computed.{blank}
+use Rattle.rewrite.proofs.Timing.{clock-boolean}
+use Rattle.rewrite.proofs.Viewing.{none-is, single-is, letter-is, next-is, until-is, View, of-none, of-single, of-letter, of-next, of-until, view}
+use Rattle.rewrite.proofs.Cells.{cell-at, cell-sort, stands-sort}
+use Rattle.rewrite.proofs.Ordering.{other-is, boolean-before, other-before, found}
+use Rattle.rewrite.proofs.Fitting.{AllFrom, all-at, Right, Lower, lower, Sorted, letter-right, next-right, until-right}
+
+module _ (s : List ℕ) (ok : Built s) (clock : ℕ → Ref) (right : Clocks s clock) where
+  abbrev t : List ℕ
+  t = newTable s clock
+
+  abbrev ν : ℕ → ℕ
+  ν = numberOf s clock
+
+  module _ (k : ℕ) (h : k < count s) where
+    abbrev at : ℕ
+    at = startOf s clock k
+
+    abbrev raw : Raw
+    raw = rawAt s k
+
+    -- ---- the operands of k by their new numbers, and its clock
+
+    boolean-lower : (x : ℕ) → x < count s → sortAt s x ≡ boolean → (isBoolean s k ≡ true → x < k) → Lower t at boolean (ν x)
+    boolean-lower x l e g = (boolean-before s clock (ok .fit) k h x l e g, stands-sort s clock (ok .fit) x l ∙ e)
+
+    other-lower : (x sort : ℕ) → x < k → sortAt s x ≡ sort → sequence ≤ sort → sequence ≤ sortAt s k → Lower t at sort (ν x)
+    other-lower x sort l e g u = (other-before s clock (ok .fit) k h x l (omega arith) u, stands-sort s clock (ok .fit) x (omega arith) ∙ e)
+
+    operand-lower : (x sort : ℕ) → ¬ (sort ≡ none) → x < k → sortAt s x ≡ sort → (sequence ≤ sort → sequence ≤ sortAt s k) → Lower t at sort (ν x)
+    operand-lower x sort z l e u =
+        ⊎-elim
+        (λ (b : sort < sequence). let q : boolean ≡ sort = omega arith in subst (λ (o : ℕ). Lower t at o (ν x)) q (boolean-lower x (omega arith) (omega arith) (λ _. l)))
+        (λ (b : sequence ≤ sort). other-lower x sort l e b (u b))
+        (side sort sequence)
+
+    operand-new : (sort limit v : ℕ) → Operand s k sort limit v → (sequence ≤ sort → sequence ≤ sortAt s k) → Operand t at sort limit (moved ν sort v)
+    unfolding moved
+    operand-new sort limit v o u = go (eqb sort none) refl
+      where
+        go : (b : Bool) → eqb sort none ≡ b → Operand t at sort limit (cond b v (ν v))
+        go true e = let z = eqb-true sort none e in record { number = o .number; below = λ y. absurd (y z); sorted = λ y. absurd (y z) }
+        go false e = let z = eqb-false sort none e in lower t at limit (ν v) z (operand-lower v sort z (o .below z) (o .sorted z) u)
+
+    -- ---- a node that is copied
+
+    copied-right : eqb (rowAt s k .block) 0 ≡ false → Right t at (movedNode ν raw)
+    unfolding movedNode sortAt
+    copied-right e =
+        let w = ok .fit k h in
+        record {
+          known = w .known;
+          x = operand-new (rowAt s k .x) (rowAt s k .limit) (raw .x) (w .x) (fine-row (raw .op) .1);
+          y = operand-new (rowAt s k .y) 1 (raw .y) (w .y) (fine-row (raw .op) .2);
+          fourth = refl;
+          blocked = eqb-false (rowAt s k .block) 0 e;
+        }
+
+    -- ---- a block of its own
+
+    sorts : (us : List Raw) → blockOf s clock k ≡ us → Sorted t at us
+    sorts us e = subst (λ (us : List Raw). (i : ℕ) → i < length us → sortAt t (at + i) ≡ rowOf (getD us i blank .op) .own) e (λ i l. cell-sort s clock (ok .fit) k i h l)
+
+    module _ (c : ℕ) (ec : clock k ≡ onR c) where
+      -- of an operator whose row is known
+      module _ (op : ℕ) (eo : raw .op ≡ op) (u : sequence ≤ rowOf op .own) where
+        upper : sequence ≤ sortAt s k
+        unfolding sortAt
+        upper = subst (λ (o : ℕ). sequence ≤ rowOf o .own) (sym eo) u
+
+        condition : Lower t at boolean (ν c)
+        condition =
+            let (l, b) = clock-boolean s ok clock right k c ec in
+            boolean-lower c l b (λ e. absurd (true≢false (sym e ∙ other-is s k upper)))
+
+        operand-x : (sort : ℕ) → rowOf op .x ≡ sort → ¬ (sort ≡ none) → Lower t at sort (ν (raw .x))
+        operand-x sort e z =
+            let q : rowAt s k .x ≡ sort = ap (λ (o : ℕ). rowOf o .x) eo ∙ e in
+            let o = ok .fit k h .x in
+            operand-lower (raw .x) sort z (o .below (λ y. z (sym q ∙ y))) (o .sorted (λ y. z (sym q ∙ y)) ∙ q) (λ _. upper)
+
+        operand-y : (sort : ℕ) → rowOf op .y ≡ sort → ¬ (sort ≡ none) → Lower t at sort (ν (raw .y))
+        operand-y sort e z =
+            let q : rowAt s k .y ≡ sort = ap (λ (o : ℕ). rowOf o .y) eo ∙ e in
+            let o = ok .fit k h .y in
+            operand-lower (raw .y) sort z (o .below (λ y. z (sym q ∙ y))) (o .sorted (λ y. z (sym q ∙ y)) ∙ q) (λ _. upper)
+
+    -- ---- any
+
+    abbrev All : List Raw → Type 0
+    All = AllFrom (Right t) at 0
+
+    block-all : All (blockOf s clock k)
+    unfolding rowOf lookup operators
+    block-all = go (view (clock k) (raw .op))
+      where
+        go : View (clock k) (raw .op) → All (blockOf s clock k)
+        go (of-none z) = subst All (sym (none-is ν (clock k) at raw z)) tt
+        go (of-single z q) =
+            subst All (sym (single-is ν (clock k) at raw z q)) (subst (λ (q : ℕ). Right t q (movedNode ν raw)) (sym (add-zero at)) (copied-right z), tt)
+        go (of-letter c e o) =
+            let z = letter-is ν (clock k) at raw c e o in
+            subst All (sym z)
+            (letter-right t at (ν c) (condition c e 16 o (omega arith)) (ν (raw .x)) (operand-x c e 16 o (omega arith) boolean refl (λ y. omega arith)) (sorts _ z))
+        go (of-next c e o) =
+            let z = next-is ν (clock k) at raw c e o in
+            subst All (sym z)
+            (next-right t at (ν c) (condition c e 38 o (omega arith)) (ν (raw .x)) (operand-x c e 38 o (omega arith) property refl (λ y. omega arith)) (sorts _ z))
+        go (of-until c e o) =
+            let z = until-is ν (clock k) at raw c e o in
+            subst All (sym z)
+            (until-right t at (ν c) (condition c e 39 o (omega arith)) (ν (raw .x)) (ν (raw .y)) (operand-x c e 39 o (omega arith) property refl (λ y. omega arith))
+            (operand-y c e 39 o (omega arith) property refl (λ y. omega arith)) (sorts _ z))
+
+  -- ---- the whole table
+
+  new-right : (q : ℕ) → q < newCount s clock → Right t q (rawAt t q)
+  new-right q l =
+      let (k, i, h, a, e) = found s clock (ok .fit) q l in
+      let r = all-at (Right t) (startOf s clock k) 0 (blockOf s clock k) (block-all k h) i a in
+      let z : startOf s clock k + (0 + i) ≡ q = omega arith in
+      let c : getD (blockOf s clock k) i blank ≡ rawAt t q = sym (cell-at s clock (ok .fit) k i h a) ∙ ap (rawAt t) (sym e) in
+      subst (λ (p : ℕ). Right t p (rawAt t q)) z (subst (Right t (startOf s clock k + (0 + i))) c r)
+
+  pub new-fit : (q : ℕ) → q < newCount s clock → WellFormed t q
+  unfolding sortAt
+  new-fit q l = let r = new-right q l in record { known = r .known; x = r .x; y = r .y; fourth = r .fourth }
+
+  pub new-clockless : (q : ℕ) → q < newCount s clock → isClock t q ≡ false
+  unfolding isClock
+  new-clockless q l = ne-eqb (rowAt t q .block) 0 (new-right q l .blocked)

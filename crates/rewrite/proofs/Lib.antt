@@ -1,0 +1,28 @@
+-- What somebody above cites.
+pub mod Theorems
+pub mod Unique
+pub mod Examples
+-- Clocks, blocks and new numbers, and where each new node stands.
+pub mod Sums
+pub mod Timing
+pub mod Viewing
+pub mod Numbering
+pub mod Cells
+pub mod Ordering
+-- What the new nodes stand for.
+pub mod Standing
+pub mod Trees
+-- Why the new table is accepted: every node well formed, each in one operand place.
+pub mod Fitting
+pub mod Forming
+pub mod Tallies
+pub mod Tiling
+pub mod Hits
+pub mod Places
+pub mod Accepting
+-- The code: its loops, its blocks, its bytes and its refusals.
+pub mod HandingDown
+pub mod Counts
+pub mod Making
+pub mod Putting
+pub mod Deciding

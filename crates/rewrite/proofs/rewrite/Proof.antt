@@ -1,0 +1,96 @@
+-- `rewrite::rewrite` meets its contract. The sections follow the code: each adds what one more test gives, and has the answer where the next one
+-- stops. Assumes nothing.
+use borrow.Author.Needs.{needs}
+use borrow.Author.Tests.{lt-ltb, le-ltb}
+use native.Mathlib.Omega.{arith}
+use mathlib.Core.Path.{_≡_, refl, _∙_, sym, ap}
+use mathlib.Core.List.{List, _++_}
+use Prim.Native.Nat.{ℕ, _+_, _*_, _<_, _≤_}
+use lib.ListN.{length, drop}
+use Rattle.refusal.specs.declared.Verdict.{Verdict}
+use Rattle.refusal.specs.Computed.{accepted}
+use Rattle.refusal.proofs.Deciding.{skip, stop, through}
+use Rattle.table.specs.Check.{Checks}
+use Rattle.table.proofs.Built.{Built}
+use Rattle.table.proofs.Checking.{sound}
+use Rattle.rewrite.specs.declared.Rewriting.{Rewriting}
+use Rattle.rewrite.specs.Clocks.{Clocks}
+use Rattle.rewrite.specs.Numbers.{newCount}
+use Rattle.rewrite.specs.Tables.{heading, encoded, newNodes, newTable}
+use Rattle.rewrite.specs.Rewrites.{Rewrites}
+use Rattle.rewrite.specs.Computed.{clockBy, Ready, Timed, put, refusing}
+use Rattle.rewrite.proofs.Cells.{length-table}
+use Rattle.rewrite.proofs.Deciding.{checks-accepted, size, size-is, table-stops, table-passes, answered, declines}
+use Rattle.rewrite.proofs.rewrite.Statement.{statement}
+use Rattle.rewrite.proofs.rewrite.Tie as tie
+
+module _ (s : List ℕ) (v : Verdict) (ev : Checks s v) where
+  opening : ¬ (v .number ≡ 0) → (d : List ℕ) (r : Rewriting) → r ≡ refusing (v .number) (v .node) → Rewrites s d r d
+  opening h d r er = rw er (declines s d (refusing (v .number) (v .node)) (table-stops s (length d) v ev h) h refl)
+
+  module _ (h : v .number ≡ 0) where
+    built : Built s
+    built = sound s v ev h .formed
+
+    has-count : 5 < length s
+    has-count = let l = built .long in omega arith
+
+    ready : Ready s
+    ready = let l = built .long in record { checks = checks-accepted s v ev h; few = built .few; long = omega arith }
+
+    module _ (clocks : List ℕ) (right : Clocks s (clockBy clocks)) where
+      timed : length clocks ≡ 121 → Timed s clocks
+      timed l = record { ready = ready; size = l; right = right }
+
+      module _ (m : ℕ) (em : m ≡ newCount s (clockBy clocks)) (d : List ℕ) where
+        counted : size s ≡ m
+        counted = size-is s (ready .checks) (clockBy clocks) right ∙ sym em
+
+        many : 120 < m → (r : Rewriting) → r ≡ refusing 13 0 → Rewrites s d r d
+        many g r er = rw er (declines s d (refusing 13 0) (sym (table-passes s (length d) v ev h ∙ stop _ _ _ (rw counted (lt-ltb 120 m g)))) (λ z. omega arith) refl)
+
+        module _ (few : m ≤ 120) where
+          small : length d < 4 * m + 6 → (r : Rewriting) → r ≡ refusing 15 0 → Rewrites s d r d
+          small g r er =
+              rw er
+              (declines s d (refusing 15 0) (sym (table-passes s (length d) v ev h ∙ skip _ _ _ (rw counted (le-ltb 120 m few)) ∙ stop _ _ _ (rw counted (lt-ltb (length d) (6 + 4 * m) (omega arith)))))
+              (λ z. omega arith) refl)
+
+          done : 4 * m + 6 ≤ length d → (d′ : List ℕ) → d′ ≡ put d 0 (heading m ++ encoded (newNodes s (clockBy clocks))) → Rewrites s d (record { verdict = accepted; count = m }) d′
+          unfolding put newTable
+          done g d′ e =
+              let xs = encoded (newNodes s (clockBy clocks)) in
+              let l = length-table s (clockBy clocks) (built .fit) in
+              let j : 0 + length (newTable s (clockBy clocks)) ≡ 6 + 4 * newCount s (clockBy clocks) = omega arith in
+              record {
+                answer = answered s d accepted (sym (table-passes s (length d) v ev h ∙ skip _ _ _ (rw counted (le-ltb 120 m few)) ∙ skip _ _ _ (rw counted (le-ltb (length d) (6 + 4 * m) (omega arith))) ∙ through));
+                accepted = λ _. (
+                  clockBy clocks,
+                  right,
+                  (em, e ∙ ap (λ (i : ℕ). put d 0 (heading i ++ xs)) em ∙ ap (λ (i : ℕ). newTable s (clockBy clocks) ++ drop i d) j),
+                );
+                refused = λ z. absurd (z refl);
+              }
+
+pub rewrite-spec : {M : Type 1} → statement M
+rewrite-spec =
+    tie.close
+    (tie.spec
+    (λ c κs. search needs)
+    (λ c κs. search needs)
+    (λ c. search opening)
+    (λ c. search has-count)
+    (λ c κs. search needs)
+    (λ c κs. (search ready, search needs))
+    (λ c. search needs)
+    (λ c κs. (search timed, search needs))
+    (λ c κs. search needs)
+    (λ c. search many)
+    (λ c. search needs)
+    (λ c. search needs)
+    (λ c κs. search needs)
+    (λ c. search small)
+    (λ c. search needs)
+    (λ c κs. ((search timed, search needs), search needs))
+    (λ c. search needs)
+    (λ c. search done))

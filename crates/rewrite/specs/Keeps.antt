@@ -1,0 +1,39 @@
+-- What rewriting keeps, said of tables of bytes: t is the table s, rewritten. Assumes nothing.
+use mathlib.Core.Path.{_≡_}
+use mathlib.Core.Logic.{_↔_}
+use mathlib.Core.Bool.{false}
+use mathlib.Core.List.{List}
+use Prim.Native.Nat.{ℕ, _<_, _≤_}
+use Rattle.refusal.specs.Heading.{count}
+use Rattle.refusal.specs.Computed.{accepted}
+use Rattle.meaning.specs.Syntax.{Seq, Prop, free}
+use Rattle.meaning.specs.Words.{Word, Tail, word}
+use Rattle.meaning.specs.Meaning.{Match, Sat, Level}
+use Rattle.meaning.specs.Signal.{signal}
+use Rattle.meaning.specs.Rewriting.{rewS, rewP}
+use Rattle.table.specs.Nodes.{nodeAt, root}
+use Rattle.table.specs.Trees.{SequenceAt, PropertyAt}
+use Rattle.table.specs.Check.{Checks}
+use Rattle.rewrite.specs.Numbers.{isClock}
+
+-- the root of the table stands for the sequence, for the property
+abbrev pub RootS : List ℕ → Seq ℕ → Type 0
+RootS s r = SequenceAt (nodeAt s) (root s) r
+
+abbrev pub RootP : List ℕ → Prop ℕ → Type 0
+RootP s P = PropertyAt (nodeAt s) (root s) P
+
+pub record Keeps (s t : List ℕ) : Type 0 where
+  -- t is itself accepted, where it has at most 120 nodes
+  pub checks : count t ≤ 120 → Checks t accepted
+  -- it has no clock node
+  pub clockless : (k : ℕ) → k < count t → isClock t k ≡ false
+  -- what the root of s stands for, the root of t stands for with the clocks rewritten away
+  pub sequence : (r : Seq ℕ) → RootS s r → RootS t (rewS free r)
+  pub property : (P : Prop ℕ) → RootP s P → RootP t (rewP free P)
+  -- the two roots have the same matches of every word, from every start
+  pub matches : (r q : Seq ℕ) → RootS s r → RootS t q → (w : Word ℕ) (i j : ℕ) → Match signal free r w i j ↔ Match signal free q w i j
+  -- the same answer of every record with each of the three tails, from every position
+  pub answers : (P Q : Prop ℕ) → RootP s P → RootP t Q → (xs : List ℕ) (e : Tail) (i : ℕ) → Sat signal free P (word xs e) i ↔ Sat signal free Q (word xs e) i
+  -- and so the same level
+  pub levels : (P Q : Prop ℕ) → RootP s P → RootP t Q → (xs : List ℕ) (level : ℕ) → Level signal P xs level ↔ Level signal Q xs level

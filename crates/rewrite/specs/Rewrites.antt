@@ -1,0 +1,31 @@
+-- Document 01, "Numbers of refusal" and "Rewriting, node by node": what rewriting answers and leaves. Assumes nothing.
+use mathlib.Core.Path.{_≡_}
+use mathlib.Core.List.{List, [], _∷_, _++_}
+use Prim.Native.Nat.{ℕ, _+_, _*_, _<_}
+use lib.ListN.{length, drop}
+use Rattle.refusal.specs.First.{Refusal, when, Answers}
+use Rattle.table.specs.Trees.{Ref}
+use Rattle.table.specs.Check as Check
+use Rattle.rewrite.specs.declared.Rewriting.{Rewriting}
+use Rattle.rewrite.specs.Clocks.{Clocks}
+use Rattle.rewrite.specs.Numbers.{newCount}
+use Rattle.rewrite.specs.Tables.{newTable}
+
+-- s has clocks, and P holds of them
+abbrev pub OfClocks : List ℕ → ((ℕ → Ref) → Type 0) → Type 0
+OfClocks s P = (clock : ℕ → Ref) × Clocks s clock × P clock
+
+-- 1 to 9; 13, rewritten count over 120; 15, output too small: `room` bytes are lent
+unfoldable pub refusals : List ℕ → ℕ → List Refusal
+refusals s room =
+    Check.refusals s
+    ++ (when 13 (OfClocks s (λ clock. 120 < newCount s clock)) ∷ when 15 (OfClocks s (λ clock. room < 6 + 4 * newCount s clock)) ∷ [])
+
+-- the statement of rewriting: of the table s and the bytes d lent, the answer r and the bytes d′ left
+pub record Rewrites (s d : List ℕ) (r : Rewriting) (d′ : List ℕ) : Type 0 where
+  -- the first refusal that applies
+  pub answer : Answers (refusals s (length d)) (r .verdict)
+  -- writes a whole table and reports m; later bytes stay
+  pub accepted : r .verdict .number ≡ 0 → OfClocks s (λ clock. (r .count ≡ newCount s clock) × (d′ ≡ newTable s clock ++ drop (6 + 4 * newCount s clock) d))
+  -- answers count 0 and changes nothing lent
+  pub refused : ¬ (r .verdict .number ≡ 0) → (r .count ≡ 0) × (d′ ≡ d)
