@@ -1,14 +1,9 @@
 // The lines that are printed. Each function answers whether all was written.
-use libc::STDOUT_FILENO;
+use crate::nodes::put_table;
+use crate::output::put_bytes;
+use crate::print::put;
+use crate::print::put_number;
 use refusal::Verdict;
-
-fn put(text: &[u8]) -> bool {
-    io::write_all(STDOUT_FILENO, text)
-}
-
-fn put_number(n: u64) -> bool {
-    io::print_decimal(STDOUT_FILENO, n)
-}
 
 // A line that is no case.
 pub fn unread(line: &[u8]) -> bool {
@@ -36,16 +31,26 @@ pub fn table(label: &[u8], v: Verdict) -> bool {
 pub fn record(label: &[u8], v: Verdict, count: usize, words: &[u64]) -> bool {
     put(label)
         && put(b": ")
-        && put_count(v, count)
+        && put_count(v, count, b" samples")
         && put(b", words")
         && put_words(words)
         && put(b"\n")
 }
 
-// How many samples were read, or the refusal with the count that came with it.
-fn put_count(v: Verdict, count: usize) -> bool {
+// What rewriting a table answered, and the bytes that were lent.
+pub fn rewriting(label: &[u8], v: Verdict, count: usize, out: &[u8]) -> bool {
+    put(label)
+        && put(b": ")
+        && put_count(v, count, b" nodes")
+        && put(b", bytes")
+        && put_output(v, count, out)
+        && put(b"\n")
+}
+
+// How many samples were read or nodes written, or the refusal with the count that came with it.
+fn put_count(v: Verdict, count: usize, things: &[u8]) -> bool {
     if accepted(v) {
-        return put_number(count as u64) && put(b" samples");
+        return put_number(count as u64) && put(things);
     }
     put_refusal(v) && put(b", count ") && put_number(count as u64)
 }
@@ -63,4 +68,12 @@ fn put_words(words: &[u64]) -> bool {
         i += 1;
     }
     true
+}
+
+// After an acceptance the bytes begin with a table.
+fn put_output(v: Verdict, count: usize, out: &[u8]) -> bool {
+    if accepted(v) {
+        return put_table(out, count);
+    }
+    put_bytes(out, 0)
 }

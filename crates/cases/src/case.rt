@@ -1,5 +1,6 @@
 // One line of the input: a case, a comment, blank, or none of these.
 use crate::answers;
+use crate::output;
 use crate::text;
 
 // Runs the line and prints its answer; whether the output takes more.
@@ -33,29 +34,46 @@ fn call(line: &[u8], head: &[u8], bytes: &[u8]) -> bool {
     if number > 0 {
         return read(line, &head[number..], bytes);
     }
+    let size = text::after(head, b"rewrite ");
+    if size > 0 {
+        return rewrite_table(line, &head[size..], bytes);
+    }
     answers::unread(line)
 }
 
 // Reads a record into as many words as the text, a number and a label, begins with.
 fn read(line: &[u8], text: &[u8], bytes: &[u8]) -> bool {
-    let end = text::first(text, 0, b' ', true);
-    if end == text.len() {
-        return answers::unread(line);
-    }
-    let number = text::decimal(&text[0..end]);
-    let lent = number.value;
-    if !number.good {
-        return answers::unread(line);
-    }
-    if lent > 64 {
+    let asked = text::size(text, 64);
+    let lent = asked.lent;
+    let label = asked.label;
+    if !asked.good {
         return answers::unread(line);
     }
     let mut words = [7u64; 64];
-    read_into(&text[end + 1..], bytes, &mut words[0..lent])
+    read_into(&text[label..], bytes, &mut words[0..lent])
 }
 
 // The words are printed whole, so that those left alone are seen.
 fn read_into(label: &[u8], bytes: &[u8], words: &mut [u64]) -> bool {
     let got = record::read(bytes, words);
     answers::record(label, got.verdict, got.count, words)
+}
+
+// Rewrites a table into as many bytes as the text, a number and a label, begins with.
+fn rewrite_table(line: &[u8], text: &[u8], bytes: &[u8]) -> bool {
+    let asked = text::size(text, 500);
+    let lent = asked.lent;
+    let label = asked.label;
+    if !asked.good {
+        return answers::unread(line);
+    }
+    let mut space = [0u8; 500];
+    rewrite_into(&text[label..], bytes, &mut space[0..lent])
+}
+
+// The bytes are printed whole, so that those left alone are seen.
+fn rewrite_into(label: &[u8], bytes: &[u8], out: &mut [u8]) -> bool {
+    output::fill(out);
+    let got = rewrite::rewrite(bytes, out);
+    answers::rewriting(label, got.verdict, got.count, out)
 }

@@ -8,6 +8,13 @@ pub struct Number {
     pub good: bool,
 }
 
+// How many words or bytes are to be lent, and where the label begins, where the text says so.
+pub struct Asked {
+    pub lent: usize,
+    pub label: usize,
+    pub good: bool,
+}
+
 // A byte and how often it stands, where the text says so.
 pub struct Run {
     pub byte: u8,
@@ -100,6 +107,34 @@ pub fn decimal(text: &[u8]) -> Number {
         i += 1;
     }
     Number { value, good: true }
+}
+
+// The number that the text begins with, where it is no more than the most that can be lent, and the place after the space that ends it.
+pub fn size(text: &[u8], most: usize) -> Asked
+    ensures { λ r. ⌜ (r .lent ≤ most) × (r .label ≤ length (now (text .entry))) ⌝ }
+{
+    let bad = Asked {
+        lent: 0,
+        label: 0,
+        good: false,
+    };
+    let end = first(text, 0, b' ', true);
+    if end == text.len() {
+        return bad;
+    }
+    let number = decimal(&text[0..end]);
+    let lent = number.value;
+    if !number.good {
+        return bad;
+    }
+    if lent > most {
+        return bad;
+    }
+    Asked {
+        lent,
+        label: end + 1,
+        good: true,
+    }
 }
 
 // The text as two hexadecimal digits, with `*` and a decimal number after them or nothing.
