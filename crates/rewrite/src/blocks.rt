@@ -8,6 +8,7 @@ ghost use Rattle.table.specs.Operators.{bytes, bytesOf};
 ghost use Rattle.rewrite.specs.Blocks.{letterBlock, nextBlock, untilBlock, underBlock};
 ghost use Rattle.rewrite.specs.Computed.{refOf, blank, blankNode, kindBlock};
 
+// The four bytes of op(x, y).
 fn node(op: u8, x: u8, y: u8) -> Raw
     ensures { λ r. ⌜ r ≡ bytes op x y ⌝ }
 {

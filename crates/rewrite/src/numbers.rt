@@ -26,6 +26,7 @@ pub fn low(x: usize) -> u8
     x as u8
 }
 
+// One of two numbers, so that the loops below have no branch of their own.
 fn choose(which: bool, a: usize, b: usize) -> usize
     ensures { λ r. ⌜ r ≡ cond which a b ⌝ }
 {
