@@ -10,8 +10,8 @@ use native.Mathlib.Nat.{le-of-suc-le-suc}
 use lib.Dec.{T, T-not, leb, eqb}
 use lib.ListN.{length}
 use Rattle.meaning.specs.Syntax.{Bexp, Seq, Prop, strong, weak, neg, either, both, implies, next, until, under, Clock, free, on}
-use Rattle.meaning.specs.Words.{real, Word, inside, isBot, flip, cut, NoBot, word, Tail, none, tops, bots, after}
-use Rattle.meaning.proofs.Cells.{alive, other}
+use Rattle.meaning.specs.Words.{real, Word, inside, isBot, flip, cut, NoBot, word, Tail, none, tops, bots, after, other}
+use Rattle.meaning.proofs.Cells.{alive}
 use Rattle.meaning.specs.Meaning.{Match, counts, ticks, Second, Strong, Sat}
 use Rattle.meaning.proofs.Order.{Below, same, to-top, match-mono, match-alive}
 use Rattle.tests.proofs.Telling.{side, is-map, is-test, is-true, is-false, is-and, is-or, is-not, is-imp, decide, is-eq, is-le, is-some, is-every}

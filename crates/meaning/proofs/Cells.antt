@@ -1,12 +1,6 @@
 -- What can stand at a position, told apart for the proofs. Assumes nothing.
 use mathlib.Core.Bool.{Bool, true, false}
-use Rattle.meaning.specs.Words.{Cell, real, top, bot, end, Tail, none, tops, bots}
-
--- the bar of a tail
-abbrev pub other : Tail → Tail
-other none = none
-other tops = bots
-other bots = tops
+use Rattle.meaning.specs.Words.{Cell, real, top, bot, end}
 
 module _ {S : Type 0} where
   abbrev pub isTop : Cell S → Bool

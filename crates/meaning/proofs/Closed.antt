@@ -7,8 +7,7 @@ use Prim.Native.Nat.{ℕ, zero, suc}
 use native.Mathlib.Omega.{arith}
 use native.Mathlib.Nat.{le-of-suc-le-suc}
 use Rattle.meaning.specs.Syntax.{Prop, free}
-use Rattle.meaning.specs.Words.{bar, word, Tail, none, tops, bots}
-use Rattle.meaning.proofs.Cells.{other}
+use Rattle.meaning.specs.Words.{bar, word, Tail, none, tops, bots, other}
 use Rattle.meaning.specs.Meaning.{Accepted, Neutral, Weakly, Strongly, Level, level3, level2, level1, level0}
 use Rattle.meaning.proofs.Order.{from-bot, to-top, same, from-real, stay, Proper}
 use Rattle.meaning.proofs.Mono.{_⊑_, mono}

@@ -9,8 +9,8 @@ use native.Mathlib.Nat.{eq-or-lt-of-le}
 use lib.Dec.{T, T-not}
 use lib.ListN.{length}
 use Rattle.meaning.specs.Syntax.{Bexp, nott, andd, Seq, one, cat, fuse, alt, empty, plus, clocked, Prop, strong, weak, neg, either, both, implies, next, until, under, Clock, free, on}
-use Rattle.meaning.specs.Words.{Cell, real, top, bot, end, Word, inside, isBot, flip, bar, cut, NoBot, word, Tail, none, tops, bots}
-use Rattle.meaning.proofs.Cells.{isTop, other}
+use Rattle.meaning.specs.Words.{Cell, real, top, bot, end, Word, inside, isBot, flip, bar, cut, NoBot, word, Tail, none, tops, bots, other}
+use Rattle.meaning.proofs.Cells.{isTop}
 use Rattle.meaning.specs.Meaning.{Plus, last, more, value, meets, Match, counts, ticks, Second, Strong, Sat, Topped, Accepted, Level, level3, level2, level1, level0}
 use Rattle.meaning.specs.Rewriting.{tickS, rewS, now, seek, rewP}
 use Rattle.tests.proofs.Telling.{side, is-test, is-true, is-false, is-and, is-not, test}

@@ -1,15 +1,15 @@
 -- The theorems of the published meaning, for any type of samples and whatever an atom reads. Each is proved in the file that it is taken from.
 -- Assumes nothing.
 use mathlib.Core.Bool.{Bool}
-use mathlib.Core.Path.{_≡_}
-use mathlib.Core.Logic.{_↔_}
-use mathlib.Core.List.{List, _++_}
+use mathlib.Core.Path.{_≡_, refl}
+use mathlib.Core.Logic.{_⊎_, inl, inr, _↔_}
+use mathlib.Core.List.{List, [], _++_}
 use Prim.Native.Nat.{ℕ, zero, _≤_, _<_}
 use lib.Dec.{T}
 use Rattle.tests.specs.Tests.{Tells}
 use Rattle.meaning.specs.Syntax.{Seq, Prop, Clock, free}
-use Rattle.meaning.specs.Words.{Word, Tail, top, bot, word, suffix}
-use Rattle.meaning.specs.Meaning.{Match, Sat, Accepted, Neutral, Weakly, Strongly, Level}
+use Rattle.meaning.specs.Words.{Word, Tail, tops, bots, top, bot, word, suffix}
+use Rattle.meaning.specs.Meaning.{Match, Sat, Accepted, Neutral, Weakly, Strongly, Level, level3, level2, level1, level0}
 use Rattle.meaning.specs.Levels.{levelOf}
 use Rattle.meaning.specs.Rewriting.{rewS, rewP}
 use Rattle.meaning.proofs.Cells.{alive}
@@ -84,3 +84,11 @@ module _ {A S : Type 0} (reads : A → S → Bool) where
     -- no record has two levels
     pub level-unique : (xs : List S) {m n : ℕ} → Level reads P xs m → Level reads P xs n → m ≡ n
     level-unique = Closed.level-one reads P accepted
+
+    -- the empty record leaves it open: neither held nor broken for good
+    pub empty-open : {m : ℕ} → Level reads P [] m → (m ≡ 1) ⊎ (m ≡ 2)
+    unfolding word
+    empty-open (level3 s) = absurd (Tails.ends reads free P accepted (word [] bots) zero .1 (λ p u. tt) s)
+    empty-open (level2 s h) = inr refl
+    empty-open (level1 s h) = inl refl
+    empty-open (level0 h) = absurd (h (Tails.ends reads free P accepted (word [] tops) zero .0 (λ p u. tt)))

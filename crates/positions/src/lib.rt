@@ -2,7 +2,7 @@
 // A method takes its sets by value and hands a set back. Each contract says of every place whether the result has it.
 ghost use mathlib.Core.Path.{_≡_};
 ghost use mathlib.Core.Bool.{false, not, _||_, _&&_};
-ghost use Prim.Native.Nat.{ℕ, suc, _-_, _≤_, _<_};
+ghost use Prim.Native.Nat.{ℕ, suc, _+_, _≤_, _<_};
 ghost use lib.Dec.{eqb, leb, ltb};
 ghost use Rattle.tests.specs.Tests.{some};
 ghost use Rattle.positions.specs.Member.{has, Is, Lowest};
@@ -35,6 +35,21 @@ impl PositionSet {
         Self {
             bits: self.bits | (1 << i),
         }
+    }
+
+    // The set, with place i added where yes.
+    pub fn with_if(self, i: usize, yes: bool) -> Self
+        requires { ⌜ i ≤ 63 ⌝ }
+        ensures { λ r. ⌜ Is (r .bits) (λ k. has (self .bits) k || (yes && eqb k i)) ⌝ }
+    {
+        if yes { self.with(i) } else { self }
+    }
+
+    // The set where yes, and no place where not.
+    pub fn only_if(self, yes: bool) -> Self
+        ensures { λ r. ⌜ Is (r .bits) (λ k. has (self .bits) k && yes) ⌝ }
+    {
+        if yes { self } else { PositionSet::empty() }
     }
 
     // The places of either set.
@@ -108,6 +123,16 @@ impl PositionSet {
         self.without(PositionSet::full(i))
     }
 
+    // Each place moved down by d; the places below d are dropped.
+    pub fn down_by(self, d: usize) -> Self
+        requires { ⌜ d ≤ 63 ⌝ }
+        ensures { λ r. ⌜ Is (r .bits) (λ k. has (self .bits) (d + k)) ⌝ }
+    {
+        Self {
+            bits: self.bits >> d,
+        }
+    }
+
     // Each place moved down by one; place 0 is dropped.
     pub fn down(self) -> Self
         ensures { λ r. ⌜ Is (r .bits) (λ k. has (self .bits) (suc k)) ⌝ }
@@ -130,6 +155,20 @@ impl PositionSet {
         ensures { λ r. ⌜ r ≡ not (some (has (self .bits)) 0 64) ⌝ }
     {
         self.bits == 0
+    }
+
+    // Whether the two sets have a place in common.
+    pub fn meets(self, other: PositionSet) -> bool
+        ensures { λ r. ⌜ r ≡ some (λ k. has (self .bits) k && has (other .bits) k) 0 64 ⌝ }
+    {
+        !self.common(other).is_empty()
+    }
+
+    // Whether the other set has each place of the set.
+    pub fn within(self, other: PositionSet) -> bool
+        ensures { λ r. ⌜ r ≡ not (some (λ k. has (self .bits) k && not (has (other .bits) k)) 0 64) ⌝ }
+    {
+        self.without(other).is_empty()
     }
 
     // The lowest place of the set, and 64 of the empty set.

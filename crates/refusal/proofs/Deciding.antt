@@ -1,18 +1,18 @@
 -- What is computed in Computed.antt is what First.antt says, and nothing else is: from tests that decide the refusals, one by one.
 -- Assumes nothing.
 use borrow.Author.Tests.{ltb-true, ltb-false, lt-ltb}
-use mathlib.Core.Path.{_≡_, refl, _∙_, sym}
+use mathlib.Core.Path.{_≡_, refl, _∙_, sym, ap}
 use mathlib.Core.Logic.{_⊎_, inl, inr}
 use mathlib.Core.Bool.{Bool, true, false, cond, _&&_, true≢false, false≢true}
 use mathlib.Core.List.{List, [], _∷_, _++_}
 use Prim.Native.Nat.{ℕ, zero, suc, _+_, _-_, _≤_, _<_}
-use native.Mathlib.Nat.{sub-zero, zero-add, add-zero, not-suc-le-zero, le-of-suc-le-suc, suc-add, add-suc}
+use native.Mathlib.Nat.{sub-zero, zero-add, add-zero, not-suc-le-zero, le-of-suc-le-suc, suc-add, add-suc, le-antisymm, lt-of-not-le}
 use native.Mathlib.Omega.{arith}
 use lib.Dec.{T, ltb}
 use Rattle.tests.specs.Tests.{Tells}
 use Rattle.tests.proofs.Telling.{passes, passed, is-and, is-lt, is-test}
 use Rattle.refusal.specs.declared.Verdict.{Verdict}
-use Rattle.refusal.specs.First.{Refusal, LowestSuch, when, atLowest, Answers}
+use Rattle.refusal.specs.First.{Refusal, LowestSuch, when, atLowest, Answers, NotGiven, FirstGiven}
 use Rattle.refusal.specs.Computed.{firstOf, first, Case, at0, atFirst, firstCase, refused, accepted}
 
 -- the test passes exactly if the refusal is given, and the answer is its number and its node
@@ -197,11 +197,6 @@ before (c ∷ cs) ds z = go (before cs ds) (c .applies) refl z
     go later true e z = refl
     go later false e z = later z
 
--- no refusal of the list is given
-abbrev pub NotGiven : List Refusal → Type 0
-NotGiven [] = Unit {0}
-NotGiven (r ∷ rs) = ((k : ℕ) → ¬ r .given k) × NotGiven rs
-
 pub decides-append : (cs ds : List Case) (rs ss : List Refusal) → Decides cs rs → (NotGiven rs → Decides ds ss) → Decides (cs ++ ds) (rs ++ ss)
 decides-append [] ds [] ss d e = e tt
 decides-append [] ds (r ∷ rs) ss d e = absurd d
@@ -246,7 +241,83 @@ pub not-given-append : (rs ss : List Refusal) → NotGiven (rs ++ ss) → NotGiv
 not-given-append [] ss n = (tt, n)
 not-given-append (r ∷ rs) ss n = let (a, b) = not-given-append rs ss (n .1) in ((n .0, a), b)
 
+pub not-given-join : (rs ss : List Refusal) → NotGiven rs → NotGiven ss → NotGiven (rs ++ ss)
+not-given-join [] ss a b = b
+not-given-join (r ∷ rs) ss a b = (a .0, not-given-join rs ss (a .1) b)
+
 pub answers-none : (rs : List Refusal) (v : Verdict) → NotGiven rs → v .number ≡ 0 → v .node ≡ 0 → Answers rs v
 unfolding Answers
 answers-none [] v n z e = (z, e)
 answers-none (r ∷ rs) v n z e = inr (n .0, answers-none rs v (n .1) z e)
+
+-- ---- one list of refusals for another, after the same first ones
+
+pub answers-after : (rs ss ts : List Refusal) (v : Verdict) → (NotGiven rs → Answers ss v → Answers ts v) → Answers (rs ++ ss) v → Answers (rs ++ ts) v
+unfolding Answers
+answers-after [] ss ts v f a = f tt a
+answers-after (r ∷ rs) ss ts v f (inl a) = inl a
+answers-after (r ∷ rs) ss ts v f (inr (un, a)) = inr (un, answers-after rs ss ts v (λ n. f (un, n)) a)
+
+pub answers-beyond : (rs ss : List Refusal) (v : Verdict) → NotGiven rs → Answers ss v → Answers (rs ++ ss) v
+unfolding Answers
+answers-beyond [] ss v n a = a
+answers-beyond (r ∷ rs) ss v n a = inr (n .0, answers-beyond rs ss v (n .1) a)
+
+-- ---- no second answer, where each refusal is given at one node at most
+
+abbrev pub Single : Refusal → Type 0
+Single r = (j k : ℕ) → r .given j → r .given k → j ≡ k
+
+pub single-when : (i : ℕ) (Holds : Type 0) → Single (when i Holds)
+single-when i Holds j k a b = a .0 ∙ sym (b .0)
+
+pub single-lowest : (i n : ℕ) (Such : ℕ → Type 0) → Single (atLowest i n Such)
+single-lowest i n Such j k a b = le-antisymm (low j k a b) (low k j b a)
+  where
+    low : (j k : ℕ) → LowestSuch n Such j → LowestSuch n Such k → j ≤ k
+    low j k a b = le-of-suc-le-suc (lt-of-not-le (λ (l : k < j). a .lowest k l (b .such)))
+
+abbrev pub Singles : List Refusal → Type 0
+Singles [] = Unit {0}
+Singles (r ∷ rs) = Single r × Singles rs
+
+pub singles-append : (rs ss : List Refusal) → Singles rs → Singles ss → Singles (rs ++ ss)
+singles-append [] ss a b = b
+singles-append (r ∷ rs) ss a b = (a .0, singles-append rs ss (a .1) b)
+
+pub answers-unique : (rs : List Refusal) → Singles rs → (u v : Verdict) → Answers rs u → Answers rs v → u ≡ v
+unfolding Answers
+answers-unique [] s u v (a, b) (c, d) = λ i. refused ((a ∙ sym c) i) ((b ∙ sym d) i)
+answers-unique (r ∷ rs) s u v (inl (a, g)) (inl (b, h)) = λ i. refused ((a ∙ sym b) i) (s .0 (u .node) (v .node) g h i)
+answers-unique (r ∷ rs) s u v (inl (a, g)) (inr (un, b)) = absurd (un (u .node) g)
+answers-unique (r ∷ rs) s u v (inr (un, a)) (inl (b, h)) = absurd (un (v .node) h)
+answers-unique (r ∷ rs) s u v (inr (un, a)) (inr (un′, b)) = answers-unique rs (s .1) u v a b
+
+-- a refusal that is given, where none before it is, is the answer
+pub given-answered : (rs : List Refusal) (r : Refusal) (ss : List Refusal) → Singles (rs ++ (r ∷ ss)) → NotGiven rs → (k : ℕ) → r .given k → (v : Verdict)
+    → Answers (rs ++ (r ∷ ss)) v → (v .number ≡ r .number) × (v .node ≡ k)
+unfolding Answers
+given-answered [] r ss s n k g v (inl (a, h)) = (a, s .0 (v .node) k h g)
+given-answered [] r ss s n k g v (inr (un, a)) = absurd (un k g)
+given-answered (q ∷ rs) r ss s n k g v (inl (a, h)) = absurd (n .0 (v .node) h)
+given-answered (q ∷ rs) r ss s n k g v (inr (un, a)) = given-answered rs r ss (s .1) (n .1) k g v a
+
+-- and an answer that is no acceptance is that of a refusal given, with none before it
+pub answered-given : (rs : List Refusal) (v : Verdict) → Answers rs v → ¬ (v .number ≡ 0) → FirstGiven rs v
+unfolding Answers
+answered-given [] v a z = absurd (z (a .0))
+answered-given (r ∷ rs) v (inl (a, g)) z = record { before = []; refusal = r; after = rs; listed = refl; none = tt; number = a; given = g }
+answered-given (r ∷ rs) v (inr (un, a)) z =
+    let f = answered-given rs v a z in
+    record { before = r ∷ f .before; refusal = f .refusal; after = f .after; listed = ap (λ (ss : List Refusal). r ∷ ss) (f .listed); none = (un, f .none); number = f .number; given = f .given }
+
+pub numbered-in : (rs : List Refusal) (r : Refusal) (ss : List Refusal) → T (numbered (rs ++ (r ∷ ss))) → ¬ (r .number ≡ 0)
+numbered-in [] r ss t z = let l = is-and (is-lt 0 (r .number)) (is-test (numbered ss)) .to t .0 in omega arith
+numbered-in (q ∷ rs) r ss t z = numbered-in rs r ss (is-and (is-lt 0 (q .number)) (is-test (numbered (rs ++ (r ∷ ss)))) .to t .1) z
+
+-- with none given the answer is an acceptance
+pub none-answered : (rs : List Refusal) → NotGiven rs → (v : Verdict) → Answers rs v → (v .number ≡ 0) × (v .node ≡ 0)
+unfolding Answers
+none-answered [] n v a = a
+none-answered (r ∷ rs) n v (inl (a, g)) = absurd (n .0 (v .node) g)
+none-answered (r ∷ rs) n v (inr (un, a)) = none-answered rs (n .1) v a

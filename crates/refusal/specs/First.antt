@@ -2,7 +2,7 @@
 -- Assumes nothing.
 use mathlib.Core.Path.{_≡_}
 use mathlib.Core.Logic.{_⊎_}
-use mathlib.Core.List.{List, [], _∷_}
+use mathlib.Core.List.{List, [], _∷_, _++_}
 use Prim.Native.Nat.{ℕ, _<_}
 use Rattle.refusal.specs.declared.Verdict.{Verdict}
 
@@ -29,3 +29,20 @@ atLowest i n Such = record { number = i; given = LowestSuch n Such }
 unfoldable pub Answers : List Refusal → Verdict → Type 0
 Answers [] v = (v .number ≡ 0) × (v .node ≡ 0)
 Answers (r ∷ rs) v = ((v .number ≡ r .number) × r .given (v .node)) ⊎ (((k : ℕ) → ¬ r .given k) × Answers rs v)
+
+-- ---- what the theorems of a demand speak of
+
+-- no refusal of the list is given
+abbrev pub NotGiven : List Refusal → Type 0
+NotGiven [] = Unit {0}
+NotGiven (r ∷ rs) = ((k : ℕ) → ¬ r .given k) × NotGiven rs
+
+-- the answer is the number of a refusal of the list that is given at its node, with none before it
+pub record FirstGiven (rs : List Refusal) (v : Verdict) : Type 1 where
+  pub before : List Refusal
+  pub refusal : Refusal
+  pub after : List Refusal
+  pub listed : rs ≡ before ++ (refusal ∷ after)
+  pub none : NotGiven before
+  pub number : v .number ≡ refusal .number
+  pub given : refusal .given (v .node)

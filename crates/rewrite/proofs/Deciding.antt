@@ -10,9 +10,9 @@ use lib.ListN.{length}
 use Rattle.tests.specs.Tests.{Tells}
 use Rattle.tests.proofs.Telling.{is-map, is-lt}
 use Rattle.refusal.specs.declared.Verdict.{Verdict}
-use Rattle.refusal.specs.First.{Answers}
+use Rattle.refusal.specs.First.{Answers, NotGiven}
 use Rattle.refusal.specs.Computed.{Case, at0, firstCase, accepted, headingCases}
-use Rattle.refusal.proofs.Deciding.{Decides, NotGiven, none-given, not-given-append, answers, answers-none, decided-when, decides-append, refuses, before, after}
+use Rattle.refusal.proofs.Deciding.{Decides, none-given, not-given-append, answers, decided-when, decides-append, refuses, before, after}
 use Rattle.table.specs.Trees.{Ref}
 use Rattle.table.specs.Check as Check
 use Rattle.table.specs.Check.{Checks}
@@ -20,7 +20,7 @@ use Rattle.table.specs.Computed as Table
 use Rattle.table.specs.Computed.{nodeCases, laterCases, checked}
 use Rattle.table.proofs.Built.{Built}
 use Rattle.table.proofs.Checking as Checking
-use Rattle.table.proofs.Checking.{checks, checks-only, sound}
+use Rattle.table.proofs.Checking.{checks, checks-only, checks-none, checks-given, sound}
 use Rattle.rewrite.specs.declared.Rewriting.{Rewriting}
 use Rattle.rewrite.specs.Clocks.{Clocks}
 use Rattle.rewrite.specs.Numbers.{newCount}
@@ -35,12 +35,8 @@ module _ (s : List ℕ) where
   unfolding headingCases laterCases nodeCases
   all-refuse = tt
 
-  not-refused : NotGiven (Check.refusals s) → Checks s accepted
-  not-refused n = answers-none (Check.refusals s) accepted n refl refl
-
   pub checks-accepted : (v : Verdict) → Checks s v → v .number ≡ 0 → Checks s accepted
-  unfolding Check.refusals
-  checks-accepted v c z = not-refused (none-given (Check.refusals s) tt v z c .0)
+  checks-accepted v c z = checks-none s (checks-given s v c z)
 
   -- ---- the count of new nodes, by the one assignment of clocks
 
@@ -84,7 +80,7 @@ module _ (s : List ℕ) where
     decides =
         decides-append (Table.cases s) ownCases (Check.refusals s) _ (Checking.decides s)
         (λ n.
-        let a = not-refused n in
+        let a = checks-none s n in
         let ok = sound s accepted a refl .formed in
         let (clock, right) = clocks-exist s ok in
         let e = size-is a clock right in (
@@ -119,7 +115,7 @@ module _ (s : List ℕ) where
       settled = let (t, own) = not-given-append (Check.refusals s) _ none-applies in (t, λ q. own .0 0 (refl, q))
 
       pub table-accepted : Checks s accepted
-      table-accepted = not-refused (settled .0)
+      table-accepted = checks-none s (settled .0)
 
       pub few-new : (clock : ℕ → Ref) → Clocks s clock → newCount s clock ≤ 120
       few-new clock right = le-of-suc-le-suc (lt-of-not-le (λ g. settled .1 (clock, right, g)))

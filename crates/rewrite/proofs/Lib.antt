@@ -9,6 +9,8 @@ pub mod Viewing
 pub mod Numbering
 pub mod Cells
 pub mod Ordering
+-- A table that has no clock node.
+pub mod Clockless
 -- What the new nodes stand for.
 pub mod Standing
 pub mod Trees

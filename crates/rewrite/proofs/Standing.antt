@@ -15,7 +15,7 @@ use Rattle.table.specs.Operators.{rowOf, nodeOf, bytesOf}
 use Rattle.table.specs.Nodes.{rawAt, nodeAt, WellFormed}
 use Rattle.table.specs.Trees.{Ref, freeR, onR}
 use Rattle.table.proofs.Coded.{decoded}
-use Rattle.table.proofs.Forming.{coded-at}
+use Rattle.table.proofs.Forming.{coded-as}
 use Rattle.rewrite.specs.Numbers.{isClock, startOf, numberOf}
 use Rattle.rewrite.specs.Blocks.{movedNode, blockUnder}
 use Rattle.rewrite.specs.Tables.{blockOf, newTable}
@@ -31,7 +31,7 @@ module _ (s : List ℕ) (clock : ℕ → Ref) (fit : (k : ℕ) → k < count s �
   N = nodeAt (newTable s clock)
 
   raw : rawAt s k ≡ bytesOf v
-  raw = sym (coded-at s k (fit k h)) ∙ ap bytesOf e
+  raw = coded-as s k (fit k h) e
 
   no-clock : eqb (rowOf (bytesOf v .op) .block) 0 ≡ false → isClock s k ≡ false
   unfolding isClock

@@ -17,8 +17,7 @@ use Rattle.meaning.specs.Signal.{signal}
 use Rattle.meaning.specs.Rewriting.{rewS, rewP}
 use Rattle.meaning.proofs.Rewriting.{match-rew, sat-rew, level-rew}
 use Rattle.table.specs.Nodes.{rawAt, sortAt, WellFormed}
-use Rattle.table.specs.Trees.{Ref}
-use Rattle.table.specs.Check as Check
+use Rattle.table.specs.Trees.{Ref, RootS, RootP}
 use Rattle.table.specs.Check.{Checks}
 use Rattle.table.proofs.Reading.{uniqueS, uniqueP}
 use Rattle.table.proofs.Checking.{Sound, sound}
@@ -27,7 +26,7 @@ use Rattle.rewrite.specs.Clocks.{Clocks}
 use Rattle.rewrite.specs.Numbers.{isClock, newCount}
 use Rattle.rewrite.specs.Tables.{newTable}
 use Rattle.rewrite.specs.Rewrites.{Rewrites}
-use Rattle.rewrite.specs.Keeps.{RootS, RootP, Keeps}
+use Rattle.rewrite.specs.Keeps.{Keeps}
 use Rattle.rewrite.proofs.Timing.{clock-op}
 use Rattle.rewrite.proofs.Numbering.{count-bound}
 use Rattle.rewrite.proofs.Cells.{length-table}
@@ -77,7 +76,7 @@ module _ (s d : List ℕ) (r : Rewriting) (d′ : List ℕ) (w : Rewrites s d r 
   input-checks : Checks s accepted
   input-checks = table-accepted s (length d) (r .verdict) (w .answer) z
 
-  output-is : (clock : ℕ → Ref) → (r .count ≡ newCount s clock) × (d′ ≡ newTable s clock ++ drop (6 + 4 * newCount s clock) d) → newTable s clock ≡ output
+  pub output-is : (clock : ℕ → Ref) → (r .count ≡ newCount s clock) × (d′ ≡ newTable s clock ++ drop (6 + 4 * newCount s clock) d) → newTable s clock ≡ output
   output-is clock (e, f) =
       let l = length-table s clock (sound s accepted input-checks refl .formed .fit) in
       sym (rw (e, f) (take-at (newTable s clock) (drop (6 + 4 * newCount s clock) d) (6 + 4 * newCount s clock) (omega arith)))

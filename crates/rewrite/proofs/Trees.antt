@@ -1,7 +1,7 @@
 -- What a node of an accepted table stands for, the node that stands for it in the rewritten table stands for with the clocks rewritten away.
 -- Assumes nothing.
 use native.Mathlib.Omega.{arith}
-use mathlib.Core.Path.{_≡_, refl, _∙_, sym, ap}
+use mathlib.Core.Path.{_≡_, refl, _∙_, ap}
 use mathlib.Core.List.{List}
 use Prim.Native.Nat.{ℕ, _<_}
 use lib.Dec.{eqb}
@@ -14,7 +14,7 @@ use Rattle.table.specs.Operators.{operators, lookup, rowOf, nodeOf, bytesOf, bo
 use Rattle.table.specs.Nodes.{rawAt, nodeAt}
 use Rattle.table.specs.Trees.{BooleanAt, b-const, b-sig, b-not, b-and, b-or, SequenceAt, s-one, s-cat, s-fuse, s-alt, s-empty, s-plus, s-clock, PropertyAt, p-strong, p-weak, p-neg, p-either, p-both, p-imp, p-next, p-until, p-clock, Ref, Part, handed, ClockAt, c-free, c-on}
 use Rattle.table.proofs.Built.{Built}
-use Rattle.table.proofs.Forming.{coded-at}
+use Rattle.table.proofs.Forming.{coded-as}
 use Rattle.table.proofs.Shapes.{Formed, Suits, down}
 use Rattle.rewrite.specs.Clocks.{Clocks}
 use Rattle.rewrite.specs.Numbers.{isClock, startOf, numberOf}
@@ -50,7 +50,7 @@ module _ (s : List ℕ) (ok : Built s) (clock : ℕ → Ref) (right : Clocks s c
   drops : {k : ℕ} {v : Node} → k < n → T k ≡ v → rowOf (bytesOf v .op) .block ≡ 0 → ν k ≡ ν (bytesOf v .y)
   unfolding isClock
   drops {k} {v = v} l e z =
-      let r : rawAt s k ≡ bytesOf v = sym (coded-at s k (ok .fit k l)) ∙ ap bytesOf e in
+      let r : rawAt s k ≡ bytesOf v = coded-as s k (ok .fit k l) e in
       stands-operand s clock (ok .fit) k l (ap (λ (r : Raw). eqb (rowOf (r .op) .block) 0) r ∙ rw z) ∙ ap (λ (r : Raw). ν (r .y)) r
 
   -- ---- booleans

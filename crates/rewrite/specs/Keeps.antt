@@ -11,17 +11,9 @@ use Rattle.meaning.specs.Words.{Word, Tail, word}
 use Rattle.meaning.specs.Meaning.{Match, Sat, Level}
 use Rattle.meaning.specs.Signal.{signal}
 use Rattle.meaning.specs.Rewriting.{rewS, rewP}
-use Rattle.table.specs.Nodes.{nodeAt, root}
-use Rattle.table.specs.Trees.{SequenceAt, PropertyAt}
+use Rattle.table.specs.Trees.{RootS, RootP}
 use Rattle.table.specs.Check.{Checks}
 use Rattle.rewrite.specs.Numbers.{isClock}
-
--- the root of the table stands for the sequence, for the property
-abbrev pub RootS : List ℕ → Seq ℕ → Type 0
-RootS s r = SequenceAt (nodeAt s) (root s) r
-
-abbrev pub RootP : List ℕ → Prop ℕ → Type 0
-RootP s P = PropertyAt (nodeAt s) (root s) P
 
 pub record Keeps (s t : List ℕ) : Type 0 where
   -- t is itself accepted, where it has at most 120 nodes

@@ -15,11 +15,13 @@ use Rattle.rewrite.specs.Tables.{newTable}
 abbrev pub OfClocks : List ℕ → ((ℕ → Ref) → Type 0) → Type 0
 OfClocks s P = (clock : ℕ → Ref) × Clocks s clock × P clock
 
--- 1 to 9; 13, rewritten count over 120; 15, output too small: `room` bytes are lent
+-- rewritten count over 120
+abbrev pub tooMany : List ℕ → Refusal
+tooMany s = when 13 (OfClocks s (λ clock. 120 < newCount s clock))
+
+-- 1 to 9, 13; 15, output too small: `room` bytes are lent
 unfoldable pub refusals : List ℕ → ℕ → List Refusal
-refusals s room =
-    Check.refusals s
-    ++ (when 13 (OfClocks s (λ clock. 120 < newCount s clock)) ∷ when 15 (OfClocks s (λ clock. room < 6 + 4 * newCount s clock)) ∷ [])
+refusals s room = Check.refusals s ++ (tooMany s ∷ when 15 (OfClocks s (λ clock. room < 6 + 4 * newCount s clock)) ∷ [])
 
 -- the statement of rewriting: of the table s and the bytes d lent, the answer r and the bytes d′ left
 pub record Rewrites (s d : List ℕ) (r : Rewriting) (d′ : List ℕ) : Type 0 where

@@ -7,7 +7,7 @@ use table::operators::BOOLEAN;
 use table::operators::row_of;
 ghost use mathlib.Core.Path.{_≡_};
 ghost use mathlib.Core.Bool.{cond, false};
-ghost use Prim.Native.Nat.{_+_, _*_, _-_, _<_, _≤_};
+ghost use Prim.Native.Nat.{_*_, _-_, _<_, _≤_};
 ghost use Rattle.refusal.specs.Heading.{count};
 ghost use Rattle.rewrite.specs.Numbers.{isBoolean, lengthUnder, newCount, taken};
 ghost use Rattle.rewrite.specs.Computed.{refOf, clockBy, Timed, Numbered};

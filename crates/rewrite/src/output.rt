@@ -12,7 +12,7 @@ use table::operators::BOOLEAN;
 use table::operators::NONE;
 use table::operators::row_of;
 ghost use mathlib.Core.Path.{_≡_};
-ghost use mathlib.Core.Bool.{cond, true, false};
+ghost use mathlib.Core.Bool.{cond};
 ghost use mathlib.Core.List.{[], _++_};
 ghost use Prim.Native.Nat.{_+_, _*_, _<_, _≤_};
 ghost use lib.Dec.{eqb};

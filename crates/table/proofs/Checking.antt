@@ -4,18 +4,18 @@ use native.Mathlib.Nat.{eq-or-lt-of-le, le-of-suc-le-suc, lt-of-not-le, pos-of-n
 use borrow.Author.Tests.{le-ltb, ne-eqb, eqb-true, not-false}
 use mathlib.Core.Path.{_≡_, refl, sym, subst}
 use mathlib.Core.Logic.{_⊎_, inl, inr, ⊎-elim}
-use mathlib.Core.Bool.{false, not}
+use mathlib.Core.Bool.{false, not, _&&_}
 use mathlib.Core.List.{List}
 use Prim.Native.Nat.{ℕ, suc, _+_, _*_, _<_, _≤_}
-use lib.Dec.{eqb}
+use lib.Dec.{T, eqb, leb}
 use lib.ListN.{length, take, drop}
 use Rattle.tests.specs.Tests.{Tells}
-use Rattle.tests.proofs.Telling.{is-map, is-or, is-and, is-not, is-eq, is-lt, passed}
+use Rattle.tests.proofs.Telling.{is-map, is-or, is-and, is-not, is-eq, is-lt, is-le, passed}
 use Rattle.refusal.specs.declared.Verdict.{Verdict}
 use Rattle.refusal.specs.Heading.{count, version, mark, headingRefusals}
-use Rattle.refusal.specs.First.{LowestSuch, when, atLowest, Answers}
+use Rattle.refusal.specs.First.{LowestSuch, when, atLowest, Answers, NotGiven}
 use Rattle.refusal.specs.Computed.{refused, accepted, at0, atFirst, headingCases}
-use Rattle.refusal.proofs.Deciding.{Decided, Decides, NotGiven, Other, reached, beyond, decided-when, decided-lowest, decides-append, not-applied, none-below, answers, only}
+use Rattle.refusal.proofs.Deciding.{Decided, Decides, Other, reached, beyond, decided-when, decided-lowest, decides-append, not-applied, none-below, answers, only, answers-none, none-given, Singles, single-when, single-lowest}
 use Rattle.refusal.proofs.Headings.{decides-heading}
 use Rattle.table.specs.declared.nodes.Node.{Node}
 use Rattle.table.specs.Operators.{boolean, sequence, property}
@@ -212,3 +212,29 @@ module _ (s : List ℕ) (v : Verdict) (c : Checks s v) where
     where
       heavy : (k : ℕ) → (sortAt s k ≡ sequence) ⊎ (sortAt s k ≡ property) → sequence ≤ sortAt s k
       heavy k z = ⊎-elim (λ (e : sortAt s k ≡ sequence). omega arith) (λ (e : sortAt s k ≡ property). omega arith) z
+
+-- ---- the refusals of a table among others
+
+module _ (s : List ℕ) where
+  pub checks-none : NotGiven (refusals s) → Checks s accepted
+  checks-none n = answers-none (refusals s) accepted n refl refl
+
+  pub checks-given : (v : Verdict) → Checks s v → v .number ≡ 0 → NotGiven (refusals s)
+  unfolding refusals
+  checks-given v c z = none-given (refusals s) tt v z c .0
+
+  -- they are numbered 1 to 9
+  pub not-of-table : (v : Verdict) → ¬ ((1 ≤ v .number) × (v .number ≤ 9)) → Other v (refusals s)
+  unfolding refusals
+  not-of-table v h = (no 1 tt, (no 2 tt, (no 3 tt, (no 4 tt, (no 5 tt, (no 6 tt, (no 7 tt, (no 8 tt, (no 9 tt, tt)))))))))
+    where
+      no : (i : ℕ) → T (leb 1 i && leb i 9) → ¬ (v .number ≡ i)
+      no i t e = let (a, b) = is-and (is-le 1 i) (is-le i 9) .to t in h (omega arith, omega arith)
+
+  -- each is given at one node at most
+  pub table-singles : Singles (refusals s)
+  unfolding refusals
+  table-singles = (
+    single-when 1 _,
+    (single-when 2 _, (single-when 3 _, (single-when 4 _, (single-when 5 _, (single-lowest 6 _ _, (single-lowest 7 _ _, (single-when 8 _, (single-lowest 9 _ _, tt)))))))),
+  )

@@ -1,12 +1,13 @@
 -- The test of a node decides that it is well formed, and a well-formed node is decoded to the node that has its bytes. Assumes nothing.
 use native.Mathlib.Omega.{arith}
-use mathlib.Core.Path.{_≡_}
+use mathlib.Core.Path.{_≡_, _∙_, sym, ap}
 use mathlib.Core.Bool.{Bool, true, false, cond, _&&_}
 use mathlib.Core.List.{List}
 use Prim.Native.Nat.{ℕ}
 use lib.Dec.{eqb, ltb}
 use Rattle.tests.specs.Tests.{Tells}
 use Rattle.tests.proofs.Telling.{is-map, is-and, is-not, is-eq, is-lt}
+use Rattle.table.specs.declared.nodes.Node.{Node}
 use Rattle.table.specs.Operators.{none, bytesOf}
 use Rattle.table.specs.Nodes.{rawAt, rowAt, sortAt, nodeAt, Operand, WellFormed}
 use Rattle.table.specs.Computed.{operandFits, nodeFits}
@@ -39,3 +40,7 @@ pub coded-at : (s : List ℕ) (k : ℕ) → WellFormed s k → bytesOf (nodeAt s
 unfolding sortAt
 coded-at s k w =
     coded (rawAt s k) (record { known = w .known; unused = λ z. let h = w .y .number z in omega arith; fourth = w .fourth })
+
+-- the bytes of a node whose kind is known
+pub coded-as : (s : List ℕ) (k : ℕ) → WellFormed s k → {v : Node} → nodeAt s k ≡ v → rawAt s k ≡ bytesOf v
+coded-as s k w e = sym (coded-at s k w) ∙ ap bytesOf e

@@ -29,7 +29,7 @@ use Rattle.table.specs.Nodes.{rawAt, sortAt, nodeAt, WellFormed}
 use Rattle.table.specs.Trees.{SequenceAt, s-one, s-cat, s-fuse, s-alt, s-empty, s-plus, s-clock, PropertyAt, p-strong, p-weak, p-neg, p-either, p-both, p-imp, p-next, p-until, p-clock}
 use Rattle.table.specs.Check.{Asks, by-strong, by-weak, by-implies}
 use Rattle.table.specs.Flags.{flags, nothing, topsAt, thenTops, sequenceTops, nodeTops, topsBelow, hollowProperty, hollowNode, hollow}
-use Rattle.table.proofs.Forming.{coded-at}
+use Rattle.table.proofs.Forming.{coded-as}
 use Rattle.table.proofs.Shapes.{down}
 
 -- ---- the flags of each node, from those of the nodes below
@@ -61,7 +61,7 @@ module _ (s : List ℕ) where
   -- the operands of a node of a known kind
   module _ {k : ℕ} {v : Node} (w : WellFormed s k) (e : nodeAt s k ≡ v) where
     raw-is : rawAt s k ≡ bytesOf v
-    raw-is = sym (coded-at s k w) ∙ ap bytesOf e
+    raw-is = coded-as s k w e
 
     x-flags : bytesOf v .x < k → ofX k ≡ flagsAt (bytesOf v .x)
     x-flags l = ap (λ (r : Raw). topsAt (topsBelow s k) (r .x)) raw-is ∙ at k (bytesOf v .x) l

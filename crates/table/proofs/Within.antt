@@ -26,11 +26,15 @@ one-sort T r P (Boolean o) x y = y
 one-sort T r P (Sequence o) x y = y
 one-sort T r P (Property o) x y = x
 
+-- no node stands for a sequence and for a property
+pub not-both : {T : ℕ → Node} {k : ℕ} {r : Seq ℕ} {P : Prop ℕ} → SequenceAt T k r → PropertyAt T k P → ⊥
+not-both {T} {k} {r} {P} d e = one-sort T r P (T k) (readS d) (readP e)
+
 pub tree-unique : {T : ℕ → Node} {k : ℕ} {a b : Tree ℕ} → TreeAt T k a → TreeAt T k b → a ≡ b
 tree-unique (t-seq d) (t-seq e) = ap seq (uniqueS d e)
 tree-unique (t-prop d) (t-prop e) = ap prop (uniqueP d e)
-tree-unique {T} {k} (t-seq {r = r} d) (t-prop {P = P} e) = absurd (one-sort T r P (T k) (readS d) (readP e))
-tree-unique {T} {k} (t-prop {P = P} d) (t-seq {r = r} e) = absurd (one-sort T r P (T k) (readS e) (readP d))
+tree-unique (t-seq d) (t-prop e) = absurd (not-both d e)
+tree-unique (t-prop d) (t-seq e) = absurd (not-both e d)
 
 -- ---- the parts of a node by its kind
 

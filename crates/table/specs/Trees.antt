@@ -47,6 +47,13 @@ pub data TreeAt (T : ℕ → Node) (k : ℕ) : Tree ℕ → Type 0 where
   t-seq : {r : Seq ℕ} → SequenceAt T k r → TreeAt T k (seq r)
   t-prop : {P : Prop ℕ} → PropertyAt T k P → TreeAt T k (prop P)
 
+-- the root of the table stands for the sequence, for the property
+abbrev pub RootS : List ℕ → Seq ℕ → Type 0
+RootS s r = SequenceAt (nodeAt s) (root s) r
+
+abbrev pub RootP : List ℕ → Prop ℕ → Type 0
+RootP s P = PropertyAt (nodeAt s) (root s) P
+
 -- ---- clocks
 
 -- a clock by the number of its condition's node

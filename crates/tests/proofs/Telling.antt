@@ -1,11 +1,11 @@
 -- The laws of tests: what a test made of others tells. Assumes nothing.
-use mathlib.Core.Bool.{Bool, true, false, not, _&&_, _||_}
-use mathlib.Core.Path.{_≡_, refl, subst}
-use mathlib.Core.Logic.{_⊎_, inl, inr, ⊎-elim}
+use mathlib.Core.Bool.{Bool, true, false, not, _&&_, _||_, or-false, or-assoc}
+use mathlib.Core.Path.{_≡_, refl, sym, ap, ap₂, subst, _∙_}
+use mathlib.Core.Logic.{_⊎_, inl, inr, ⊎-elim, _↔_}
 use Prim.Native.Nat.{ℕ, zero, suc, _+_, _≤_, _<_}
 use native.Mathlib.Omega.{arith}
 use native.Mathlib.Decide.{decLt}
-use native.Mathlib.Nat.{eq-or-lt-of-le}
+use native.Mathlib.Nat.{eq-or-lt-of-le, zero-add, add-zero, add-suc, suc-add}
 use lib.Dec.{T, leb, ltb, eqb, leb→le, le→leb, ltb→lt, lt→ltb, eqb→eq, eqb-refl}
 use Rattle.tests.specs.Tests.{Tells, some, every}
 
@@ -85,6 +85,11 @@ is-some {f} {P} lo (suc n) h =
     (⊎-elim (λ x. (lo, omega arith, omega arith, x)) (λ q. (q .0, omega arith, omega arith, q .3)))
     (λ q. ⊎-elim (λ e. inl (subst P (omega arith) (q .3))) (λ l. inr (q .0, l, omega arith, q .3)) (eq-or-lt-of-le (q .1)))
 
+-- the same of some position at all, where what is asked holds of these positions alone
+pub is-some-at : {f : ℕ → Bool} {P : ℕ → Type 0} (lo n : ℕ) → ((p : ℕ) → P p → (lo ≤ p) × (p < lo + n))
+    → ((p : ℕ) → lo ≤ p → p < lo + n → Tells (f p) (P p)) → Tells (some f lo n) ((p : ℕ) × P p)
+is-some-at lo n g h = is-map (is-some lo n h) (λ q. (q .0, q .3)) (λ q. (q .0, g (q .0) (q .1) .0, g (q .0) (q .1) .1, q .1))
+
 pub is-every : {f : ℕ → Bool} {P : ℕ → Type 0} (lo n : ℕ) → ((p : ℕ) → lo ≤ p → p < lo + n → Tells (f p) (P p))
     → Tells (every f lo n) ((p : ℕ) → lo ≤ p → p < lo + n → P p)
 unfolding every
@@ -93,3 +98,43 @@ is-every {f} {P} lo (suc n) h =
     is-map (is-and (h lo (omega arith) (omega arith)) (is-every {f = f} {P = P} (suc lo) n (λ p u v. h p (omega arith) (omega arith))))
     (λ q p u v. ⊎-elim (λ e. subst P e (q .0)) (λ l. q .1 p l (omega arith)) (eq-or-lt-of-le u))
     (λ g. (g lo (omega arith) (omega arith), λ p u v. g p (omega arith) (omega arith)))
+
+-- tests that agree on the positions asked
+pub some-same : {f g : ℕ → Bool} (lo n : ℕ) → ((p : ℕ) → lo ≤ p → p < lo + n → f p ≡ g p) → some f lo n ≡ some g lo n
+unfolding some
+some-same lo zero h = refl
+some-same {f} {g} lo (suc n) h =
+    ap₂ _||_ (h lo (omega arith) (omega arith)) (some-same {f = f} {g = g} (suc lo) n (λ p u v. h p (omega arith) (omega arith)))
+
+-- two statements of one test hold together
+pub agree : {b : Bool} {P Q : Type 0} → Tells b P → Tells b Q → P ↔ Q
+agree h k = (λ p. k .to (h .from p), λ q. h .to (k .from q))
+
+-- and a test of one of two such statements is one of the other
+pub is-like : {b : Bool} {P Q : Type 0} → Tells b P → (Q ↔ P) → Tells b Q
+is-like h a = is-map h (a .1) (a .0)
+
+-- a test by an equal one
+pub is-as : {a b : Bool} {P : Type 0} → a ≡ b → Tells b P → Tells a P
+is-as {P} e h = subst (λ t. Tells t P) (sym e) h
+
+-- the second test needs to be right only where the first passes
+pub is-and-then : {a b : Bool} {P Q : Type 0} → Tells a P → (P → Tells b Q) → Tells (a && b) (P × Q)
+is-and-then {a = true} {b} h k = let g = k (h .to tt) in record { to = λ t. (h .to tt, g .to t); from = λ q. g .from (q .1) }
+is-and-then {a = false} {b} h k = record { to = λ t. absurd t; from = λ q. h .from (q .0) }
+
+-- two tests of one statement are equal
+pub same-test : {a b : Bool} {P : Type 0} → Tells a P → Tells b P → a ≡ b
+same-test {a = true} {b = true} h k = refl
+same-test {a = true} {b = false} h k = absurd (k .from (h .to tt))
+same-test {a = false} {b = true} h k = absurd (h .from (k .to tt))
+same-test {a = false} {b = false} h k = refl
+
+-- one position more is asked
+some-more : (f : ℕ → Bool) (lo n : ℕ) → (some f lo n || f (lo + n)) ≡ some f lo (suc n)
+unfolding some
+some-more f lo zero = rw (add-zero lo) (sym (or-false (f lo)))
+some-more f lo (suc n) = rw (add-suc lo n) (or-assoc (f lo) (some f (suc lo) n) (f (suc (lo + n))) ∙ ap (λ b. f lo || b) (rw (← suc-add lo n) (some-more f (suc lo) n)))
+
+pub some-next : (f : ℕ → Bool) (n : ℕ) → (some f 0 n || f n) ≡ some f 0 (suc n)
+some-next f n = rw (zero-add n) at (some-more f 0 n)
