@@ -1,0 +1,62 @@
+-- `rows::booleans::signal_set` meets its contract: the loop has taken the samples below k that have the signal. Assumes nothing.
+use mathlib.Core.Path.{_≡_}
+use mathlib.Core.Bool.{_&&_}
+use Prim.Native.Nat.{_≤_, _-_}
+use native.Mathlib.Omega.{arith}
+use lib.Dec.{ltb}
+use lib.ListN.{length, getD}
+use Rattle.positions.specs.Member.{has, Is}
+use Rattle.rows.proofs.Loops.{taken-none, taken-more}
+use borrow.Author.Needs.{needs}
+use Rattle.rows.proofs.booleans.signal_set.Statement.{statement}
+use Rattle.rows.proofs.booleans.signal_set.Tie as tie
+
+abbrev Inv-loop : tie.InvT-loop
+Inv-loop samples s n out₀ k₀ out k = (k ≤ length samples) × Is (out .bits) (λ j. ltb j k && has (getD samples j 0) s)
+
+abbrev μ-loop : tie.MeasureT-loop
+μ-loop samples s n out₀ k₀ out k = length samples - k
+
+empty-requires : tie.Need-empty-requires Inv-loop μ-loop
+empty-requires c κs = search needs
+
+loop-holds : tie.Need-loop-holds Inv-loop μ-loop
+loop-holds c = (search needs, taken-none _ _ (c .empty .ensures))
+
+has-requires : tie.Need-has-requires Inv-loop μ-loop
+has-requires c κs = search needs
+
+with-if-requires : tie.Need-with-if-requires Inv-loop μ-loop
+with-if-requires c κs = search needs
+
+add-k : tie.Need-add-k Inv-loop μ-loop
+add-k c = search needs
+
+loop-less : tie.Need-loop-less Inv-loop μ-loop
+loop-less c = search needs
+
+loop-again : tie.Need-loop-again Inv-loop μ-loop
+loop-again c =
+    let a = c .before .before .before .before .before .before .before .args in
+    let l = c .before .before .before .before .loop in
+    (search needs, taken-more (λ j. has (getD (a .samples .now) j 0) (a .s)) (l .k) _ _ _ (l .inv .1) (c .before .has .ensures) (c .with-if .ensures))
+
+returns : tie.Need-returns Inv-loop μ-loop
+returns c = let e : length (c .before .before .before .before .args .samples .now) ≡ c .before .loop .k = omega arith in rw e (c .before .loop .inv .1)
+
+pub signal-set-spec : {M : Type 1} → statement M
+signal-set-spec =
+    tie.close
+    (tie.spec
+    Inv-loop
+    μ-loop
+    empty-requires
+    loop-holds
+    (λ c. search needs)
+    (λ c. search needs)
+    has-requires
+    with-if-requires
+    add-k
+    loop-less
+    loop-again
+    returns)

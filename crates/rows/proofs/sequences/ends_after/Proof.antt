@@ -1,0 +1,73 @@
+-- `rows::sequences::ends_after` meets its contract: the ends from the places that are taken out are joined, and what is left falls as a number.
+-- Assumes nothing.
+use Prim.Native.Nat.{_≤_}
+use native.Mathlib.Omega.{arith}
+use borrow.Author.Needs.{needs}
+use Rattle.positions.specs.Member.{has}
+use Rattle.rows.specs.Bits.{longer}
+use Rattle.rows.specs.Shares.{longest}
+use Rattle.rows.proofs.Walking.{Walked, walk-start, walk-at, walk-turn, walk-end}
+use Rattle.rows.proofs.sequences.ends_after.Statement.{statement}
+use Rattle.rows.proofs.sequences.ends_after.Tie as tie
+
+abbrev Inv-loop : tie.InvT-loop
+Inv-loop rows b n out₀ left₀ out left = Walked (has (left₀ .bits)) (longer rows b) n (out .bits) (left .bits)
+
+abbrev μ-loop : tie.MeasureT-loop
+μ-loop rows b n out₀ left₀ out left = left .bits
+
+empty-requires : tie.Need-empty-requires Inv-loop μ-loop
+empty-requires c κs = search needs
+
+cut-requires : tie.Need-cut-requires Inv-loop μ-loop
+cut-requires c κs = search needs
+
+loop-holds : tie.Need-loop-holds Inv-loop μ-loop
+loop-holds c = walk-start _ _ _ _ _ (c .before .empty .ensures) (c .cut .ensures)
+
+lowest-requires : tie.Need-lowest-requires Inv-loop μ-loop
+lowest-requires c κs = search needs
+
+-- the lowest place of what is left is up to n
+inside : (c : tie.After-lowest Inv-loop μ-loop) → c .lowest .result ≤ longest
+inside c =
+    let at = walk-at _ _ _ _ _ _ (omega arith) (c .before .if1 .taken) (c .lowest .ensures) (c .before .before .before .loop .inv) in
+    omega arith
+
+longer-ends-requires : tie.Need-longer-ends-requires Inv-loop μ-loop
+longer-ends-requires c κs = (search needs, inside c)
+
+joined-requires : tie.Need-joined-requires Inv-loop μ-loop
+joined-requires c κs = search needs
+
+rest-requires : tie.Need-rest-requires Inv-loop μ-loop
+rest-requires c κs = omega arith
+
+loop-less : tie.Need-loop-less Inv-loop μ-loop
+loop-less c = c .rest .ensures .1
+
+loop-again : tie.Need-loop-again Inv-loop μ-loop
+loop-again c =
+    let low = c .before .before .before .lowest in
+    walk-turn _ _ _ _ _ _ (omega arith) (c .before .before .before .before .if1 .taken) (low .ensures) (c .before .before .before .before .before .before .loop .inv) _ _ _ (c .before .before .longer-ends .ensures) (c .before .joined .ensures)
+    (c .rest .ensures .0 (low .result) (low .ensures))
+
+returns : tie.Need-returns Inv-loop μ-loop
+returns c = walk-end _ _ _ _ _ _ (c .before .before .before .cut .ensures) (c .if1 .left) (c .before .before .loop .inv)
+
+pub ends-after-spec : {M : Type 1} → statement M
+ends-after-spec =
+    tie.close
+    (tie.spec
+    Inv-loop
+    μ-loop
+    empty-requires
+    cut-requires
+    loop-holds
+    lowest-requires
+    longer-ends-requires
+    joined-requires
+    rest-requires
+    loop-less
+    loop-again
+    returns)

@@ -1,0 +1,82 @@
+-- The rows of a table's nodes, and the workspace that holds them. Assumes nothing.
+use mathlib.Core.Path.{_≡_}
+use mathlib.Core.Logic.{_⊎_}
+use mathlib.Core.Bool.{Bool, cond}
+use mathlib.Core.List.{List, [], _∷_, _++_}
+use Prim.Native.Nat.{ℕ, zero, suc, _+_, _*_, _<_, _≤_}
+use lib.Dec.{eqb, leb}
+use lib.ListN.{length, getD, take, drop}
+use Rattle.meaning.specs.Words.{none, tops, bots}
+use Rattle.positions.specs.Member.{collect}
+use Rattle.table.specs.Nodes.{nodeAt}
+use Rattle.table.specs.declared.nodes.Node.{Node}
+use Rattle.table.specs.declared.nodes.Node.the-variants.{Boolean, Sequence, Property}
+use Rattle.table.specs.declared.nodes.BooleanOp.{BooleanOp}
+use Rattle.table.specs.declared.nodes.SequenceOp.{SequenceOp}
+use Rattle.table.specs.declared.nodes.PropertyOp.{PropertyOp}
+use Rattle.rows.specs.Shares.{share, topWord, longest}
+use Rattle.rows.specs.Bits.{booleanBit, sequenceBit, topBit, propertyBit, readyBoolean, readySequence, readyProperty}
+
+-- the first n values of f
+unfoldable pub tab : (ℕ → ℕ) → ℕ → List ℕ
+tab f zero = []
+tab f (suc n) = tab f n ++ (f n ∷ [])
+
+-- a word: the set of the places that pass the test
+abbrev pub set64 : (ℕ → Bool) → ℕ
+set64 f = collect 64 f
+
+-- word i of a row, by the sort of its node; all other bits are 0
+abbrev pub threeWords : ℕ → ℕ → ℕ → ℕ → ℕ
+threeWords u v w i = cond (eqb i 0) u (cond (eqb i 1) v (cond (eqb i 2) w 0))
+
+abbrev pub booleanWord : List ℕ → List ℕ → BooleanOp → ℕ → ℕ
+booleanWord rows xs op = threeWords (set64 (booleanBit rows xs op)) 0 0
+
+abbrev pub sequenceWord : List ℕ → ℕ → SequenceOp → ℕ → ℕ
+sequenceWord rows n op i = cond (leb i n) (set64 (sequenceBit rows n op i)) (cond (eqb i topWord) (set64 (topBit rows n op)) 0)
+
+abbrev pub propertyWord : List ℕ → ℕ → PropertyOp → ℕ → ℕ
+propertyWord rows n op =
+    threeWords (set64 (propertyBit rows n op none)) (set64 (propertyBit rows n op tops)) (set64 (propertyBit rows n op bots))
+
+abbrev pub nodeWord : List ℕ → List ℕ → Node → ℕ → ℕ
+nodeWord rows xs (Boolean op) i = booleanWord rows xs op i
+nodeWord rows xs (Sequence op) i = sequenceWord rows (length xs) op i
+nodeWord rows xs (Property op) i = propertyWord rows (length xs) op i
+
+-- the row of a node, from the rows below it
+unfoldable pub rowOf : List ℕ → List ℕ → Node → List ℕ
+rowOf rows xs node = tab (nodeWord rows xs node) share
+
+-- the rows of the nodes below k
+unfoldable pub rowsOf : List ℕ → List ℕ → ℕ → List ℕ
+rowsOf s xs zero = []
+rowsOf s xs (suc k) = rowsOf s xs k ++ rowOf (rowsOf s xs k) xs (nodeAt s k)
+
+-- the workspace d with the row r laid in at node k
+unfoldable pub laid : List ℕ → ℕ → List ℕ → List ℕ
+laid d k r = take (share * k) d ++ r ++ drop (share * k + share) d
+
+-- out is d with the words from `from` to `to` - 1 made 0
+pub record Cleared (d : List ℕ) (from to : ℕ) (out : List ℕ) : Type 0 where
+  pub long : length out ≡ length d
+  pub zero : (j : ℕ) → from ≤ j → j < to → getD out j 0 ≡ 0
+  pub stay : (j : ℕ) → (j < from) ⊎ (to ≤ j) → getD out j 0 ≡ getD d j 0
+
+-- the workspace d with the rows of the nodes below k laid in
+unfoldable pub filled : List ℕ → List ℕ → List ℕ → ℕ → List ℕ
+filled s xs d k = rowsOf s xs k ++ drop (share * k) d
+
+-- the operands' rows lie within the first w words
+abbrev pub Ready : ℕ → Node → Type 0
+Ready w (Boolean op) = readyBoolean w op
+Ready w (Sequence op) = readySequence w op
+Ready w (Property op) = readyProperty w op
+
+-- what `fill` asks: the bytes of m nodes, each with its operands below it, their shares, and a record that is not too long
+pub record Fits (s xs d : List ℕ) (m : ℕ) : Type 0 where
+  pub bytes : 4 * m + 6 ≤ length s
+  pub ready : (k : ℕ) → k < m → Ready (share * k) (nodeAt s k)
+  pub short : length xs ≤ longest
+  pub words : share * m ≤ length d

@@ -1,0 +1,106 @@
+// The rows of a table without clocks, in the lent workspace: 65 words a node, made from the rows below it by word operations.
+mod booleans;
+pub mod cells;
+mod properties;
+mod sequences;
+mod untils;
+
+use booleans::boolean_set;
+use cells::SHARE;
+use cells::Suffixes;
+use cells::TOP_WORD;
+use positions::PositionSet;
+use properties::suffixes_of;
+use sequences::found_from;
+use sequences::open_starts;
+use table::nodes::Node;
+use table::nodes::SequenceOp;
+use table::nodes::decode;
+use table::nodes::node_at;
+ghost use mathlib.Core.Path.{_≡_};
+ghost use Prim.Native.Nat.{_*_, _≤_};
+ghost use lib.ListN.{length, take};
+ghost use Rattle.rows.specs.Shares.{share, longest, Row};
+ghost use Rattle.rows.specs.Bits.{readySequence};
+ghost use Rattle.rows.specs.Rows.{tab, threeWords, sequenceWord, rowOf, laid, filled, Ready, Fits, Cleared};
+
+// Words `from` to `to` - 1, made 0.
+fn clear(ws: &mut [u64], from: usize, to: usize)
+    requires { ⌜ (from ≤ to) × (to ≤ length (now ws)) ⌝ }
+    ensures { λ _. ⌜ Cleared (now (ws .entry)) from to (now (ws .exit)) ⌝ }
+{
+    let mut j = from;
+    while j < to {
+        ws[j] = 0;
+        j += 1;
+    }
+}
+
+// A row of three words, the others 0.
+fn put_three(ws: &mut [u64], k: usize, words: Suffixes)
+    requires { ⌜ Row (length (now ws)) k ⌝ }
+    ensures { λ _. ⌜ now (ws .exit) ≡ laid (now (ws .entry)) k (tab (threeWords (words .neutral .bits) (words .weak .bits) (words .strong .bits)) share) ⌝ }
+{
+    let at = SHARE * k;
+    ws[at] = words.neutral.bits;
+    ws[at + 1] = words.weak.bits;
+    ws[at + 2] = words.strong.bits;
+    clear(ws, at + 3, at + SHARE);
+}
+
+// A sequence's row, from the last start down, so that a repetition finds its own words above.
+fn put_sequence(ws: &mut [u64], k: usize, op: SequenceOp, n: usize)
+    requires { ⌜ Row (length (now ws)) k × readySequence (share * k) op × (n ≤ longest) ⌝ }
+    ensures { λ _. ⌜ now (ws .exit) ≡ laid (now (ws .entry)) k (tab (sequenceWord (take (share * k) (now (ws .entry))) n op) share) ⌝ }
+{
+    let at = SHARE * k;
+    let mut tops = PositionSet::empty();
+    let mut i = n + 1;
+    while 0 < i {
+        i -= 1;
+        let all = &ws[..];
+        let found = found_from(&all[..at], &all[at..], n, op, i);
+        tops = tops.with_if(i, found.on);
+        ws[at + i] = found.ends.bits;
+    }
+    let open = open_starts(&ws[..at], n, op);
+    ws[at + TOP_WORD] = tops.joined(open.cut(n)).bits;
+    clear(ws, at + n + 1, at + TOP_WORD);
+}
+
+// Row k, from the rows below it.
+fn put_row(ws: &mut [u64], samples: &[u64], k: usize, node: Node)
+    requires { ⌜ Row (length (now ws)) k × Ready (share * k) node × (length (now samples) ≤ longest) ⌝ }
+    ensures { λ _. ⌜ now (ws .exit) ≡ laid (now (ws .entry)) k (rowOf (take (share * k) (now (ws .entry))) (now (samples .entry)) node) ⌝ }
+{
+    let at = SHARE * k;
+    match node {
+        Node::Boolean(op) => {
+            let set = boolean_set(&ws[..at], samples, op);
+            let none = PositionSet::empty();
+            let words = Suffixes {
+                neutral: set,
+                weak: none,
+                strong: none,
+            };
+            put_three(ws, k, words);
+        }
+        Node::Sequence(op) => put_sequence(ws, k, op, samples.len()),
+        Node::Property(op) => {
+            let words = suffixes_of(&ws[..at], samples.len(), op);
+            put_three(ws, k, words);
+        }
+    }
+}
+
+// The rows of the m nodes of a table without clocks, in the first 65m words; the words from there on stay.
+pub fn fill(table: &[u8], samples: &[u64], ws: &mut [u64], m: usize)
+    requires { ⌜ Fits (now table) (now samples) (now ws) m ⌝ }
+    ensures { λ _. ⌜ now (ws .exit) ≡ filled (now (table .entry)) (now (samples .entry)) (now (ws .entry)) m ⌝ }
+{
+    let mut k: usize = 0;
+    while k < m {
+        put_row(ws, samples, k, decode(node_at(table, k)));
+        k += 1;
+    }
+}
