@@ -1,0 +1,249 @@
+-- The three demands, as theorems about what the judge and match ends answer. A call is told by its statement: `Judges s xs d r d′` says that of the table s,
+-- the samples xs and the workspace d the answer is r and the workspace left is d′. Assumes nothing.
+use native.Mathlib.Omega.{arith}
+use native.Mathlib.Nat.{le-of-suc-le-suc, lt-of-not-le}
+use mathlib.Core.Path.{_≡_, refl, _∙_, sym, subst}
+use mathlib.Core.Bool.{false}
+use mathlib.Core.Logic.{_⊎_, _↔_}
+use mathlib.Core.List.{List, [], _∷_, _++_}
+use Prim.Native.Nat.{ℕ, zero, _*_, _-_, _≤_}
+use lib.Dec.{T}
+use lib.ListN.{length}
+use Rattle.tests.specs.Tests.{Tells}
+use Rattle.tests.proofs.Telling.{is-map, is-like, same-test}
+use Rattle.positions.proofs.Laws.{ext}
+use Rattle.refusal.specs.First.{Refusal, Answers, NotGiven, FirstGiven}
+use Rattle.refusal.specs.Heading.{count}
+use Rattle.refusal.specs.Computed.{accepted}
+use Rattle.refusal.proofs.Deciding.{Singles, numbered, numbered-in, given-answered, answered-given, none-answered, not-given-append, not-given-join}
+use Rattle.meaning.specs.Syntax.{Seq, Prop, free}
+use Rattle.meaning.specs.Words.{Tail, none, tops, bots, word}
+use Rattle.meaning.specs.Meaning.{Sat, Accepted, Level, Ends}
+use Rattle.meaning.specs.Signal.{signal}
+use Rattle.meaning.specs.Rewriting.{rewS, rewP}
+use Rattle.meaning.proofs.Theorems as Meaning
+use Rattle.table.specs.Operators.{sequence, property}
+use Rattle.table.specs.Nodes.{root}
+use Rattle.table.specs.Trees.{Ref, RootS, RootP}
+use Rattle.table.specs.Check as Check
+use Rattle.table.proofs.Reading.{uniqueS, uniqueP}
+use Rattle.table.proofs.Theorems.{accepted-root}
+use Rattle.table.proofs.Checking.{sound, checks-given}
+use Rattle.table.proofs.Standing.{sequence-in}
+use Rattle.table.proofs.Within.{not-both}
+use Rattle.rewrite.proofs.Clockless.{same-count}
+use Rattle.rewrite.specs.Clocks.{Clocks}
+use Rattle.rewrite.specs.Numbers.{newCount}
+use Rattle.rewrite.specs.Tables.{newTable}
+use Rattle.rewrite.specs.Rewrites.{tooMany}
+use Rattle.rows.specs.Shares.{share, longest, topWord, wordIn, bitIn, wordOf}
+use Rattle.judge.specs.declared.Judgement.{Judgement}
+use Rattle.judge.specs.declared.MatchEnds.{MatchEnds}
+use Rattle.judge.specs.Tested.{Tested}
+use Rattle.judge.specs.Rows.{Onward, Filled}
+use Rattle.judge.specs.Refusals.{wrongRoot, judgeRefusals, endsRefusals}
+use Rattle.judge.specs.Judges.{Judges, EndsMatches}
+use Rattle.judge.proofs.Passing.{judgeRest, endsRest, judge-passes, ends-passes, own-parts, table-checks, same-clocks, new-keeps, new-accepted, count-is-new, few-nodes}
+use Rattle.judge.proofs.Stepping.{ends-inside}
+use Rattle.judge.proofs.Unique.{judge-singles, ends-singles}
+
+-- ---- demand 1: bad input is refused with exactly the page's number, and nothing lent is changed
+
+module _ (s xs d : List ℕ) (r : Judgement) (d′ : List ℕ) (j : Judges s xs d r d′) where
+  numbers : T (numbered (judgeRefusals s (length xs) (length d)))
+  unfolding judgeRefusals Check.refusals
+  numbers = tt
+
+  -- where x of the judge's refusals is given, at node k, and none before it, it is answered, with level 0, not tested, and no word is changed
+  pub judge-refuses : (before : List Refusal) (x : Refusal) (after : List Refusal) → judgeRefusals s (length xs) (length d) ≡ before ++ (x ∷ after)
+      → NotGiven before → (k : ℕ) → x .given k
+      → (r .verdict .number ≡ x .number) × (r .verdict .node ≡ k) × (r .level .number ≡ 0) × (r .tested ≡ false) × (d′ ≡ d)
+  judge-refuses before x after e n k g =
+      let single = subst Singles e (judge-singles s (length xs) (length d)) in
+      let (a, b) = given-answered before x after single n k g (r .verdict) (subst (λ (rs : List Refusal). Answers rs (r .verdict)) e (j .answer)) in
+      let (l, t, w) = j .refused (λ y. numbered-in before x after (subst (λ (rs : List Refusal). T (numbered rs)) e numbers) (sym a ∙ y)) in
+      (a, b, l, t, w)
+
+  -- what is answered is given, and none before it
+  pub judge-refused-rightly : ¬ (r .verdict .number ≡ 0) → FirstGiven (judgeRefusals s (length xs) (length d)) (r .verdict)
+  judge-refused-rightly z = answered-given (judgeRefusals s (length xs) (length d)) (r .verdict) (j .answer) z
+
+  -- with none given the judge accepts
+  pub judge-accepts : NotGiven (judgeRefusals s (length xs) (length d)) → (r .verdict .number ≡ 0) × (r .verdict .node ≡ 0)
+  judge-accepts n = none-answered (judgeRefusals s (length xs) (length d)) n (r .verdict) (j .answer)
+
+-- the same of match ends, with an empty mask
+module _ (s xs d : List ℕ) (start : ℕ) (r : MatchEnds) (d′ : List ℕ) (j : EndsMatches s xs d start r d′) where
+  ends-numbers : T (numbered (endsRefusals s (length xs) start (length d)))
+  unfolding endsRefusals Check.refusals
+  ends-numbers = tt
+
+  pub ends-refuses : (before : List Refusal) (x : Refusal) (after : List Refusal) → endsRefusals s (length xs) start (length d) ≡ before ++ (x ∷ after)
+      → NotGiven before → (k : ℕ) → x .given k
+      → (r .verdict .number ≡ x .number) × (r .verdict .node ≡ k) × (r .mask .bits ≡ 0) × (r .top ≡ false) × (d′ ≡ d)
+  ends-refuses before x after e n k g =
+      let single = subst Singles e (ends-singles s (length xs) start (length d)) in
+      let (a, b) = given-answered before x after single n k g (r .verdict) (subst (λ (rs : List Refusal). Answers rs (r .verdict)) e (j .answer)) in
+      let (l, t, w) = j .refused (λ y. numbered-in before x after (subst (λ (rs : List Refusal). T (numbered rs)) e ends-numbers) (sym a ∙ y)) in
+      (a, b, l, t, w)
+
+  pub ends-refused-rightly : ¬ (r .verdict .number ≡ 0) → FirstGiven (endsRefusals s (length xs) start (length d)) (r .verdict)
+  ends-refused-rightly z = answered-given (endsRefusals s (length xs) start (length d)) (r .verdict) (j .answer) z
+
+  pub ends-accepts : NotGiven (endsRefusals s (length xs) start (length d)) → (r .verdict .number ≡ 0) × (r .verdict .node ≡ 0)
+  ends-accepts n = none-answered (endsRefusals s (length xs) start (length d)) n (r .verdict) (j .answer)
+
+-- ---- demand 2: the level is the one that the published meaning gives on the clocked table; match ends and the rows are fixed too
+
+module _ (s xs d : List ℕ) (r : Judgement) (d′ : List ℕ) (j : Judges s xs d r d′) (z : r .verdict .number ≡ 0) where
+  passes : NotGiven (Check.refusals s ++ (wrongRoot s sequence ∷ tooMany s ∷ judgeRest s (length xs) (length d)))
+  passes = judge-passes s (length xs) (length d) (r .verdict) z (j .answer)
+
+  root-accepted : (P : Prop ℕ) → RootP s P → Accepted signal free P
+  root-accepted P a = accepted-root s accepted (table-checks s (wrongRoot s sequence) (judgeRest s (length xs) (length d)) passes) refl P a
+
+  -- the level of the property at the root, clocks and all, and no other number
+  pub level-meant : (P : Prop ℕ) → RootP s P → Level signal P xs (r .level .number)
+  level-meant P a = let (Q, b, l) = j .accepted z .level in subst (λ (P : Prop ℕ). Level signal P xs (r .level .number)) (uniqueP b a) l
+
+  pub level-only : (P : Prop ℕ) → RootP s P → (m : ℕ) → Level signal P xs m → r .level .number ≡ m
+  level-only P a m l = Meaning.level-unique signal P (root-accepted P a) xs (level-meant P a) l
+
+  module _ (clock : ℕ → Ref) (right : Clocks s clock) where
+    same : (other : ℕ → Ref) → Clocks s other → other ≡ clock
+    same other right′ = same-clocks s (wrongRoot s sequence) (judgeRest s (length xs) (length d)) passes other clock right′ right
+
+    -- the rows, every bit
+    pub rows-meant : Filled (newTable s clock) xs d d′
+    rows-meant = let (other, right′, f) = j .accepted z .rows in subst (λ (κ : ℕ → Ref). Filled (newTable s κ) xs d d′) (same other right′) f
+
+    pub tested-meant : Tells (r .tested) (Tested (newTable s clock) xs)
+    tested-meant = let (other, right′, f) = j .accepted z .tested in subst (λ (κ : ℕ → Ref). Tells (r .tested) (Tested (newTable s κ) xs)) (same other right′) f
+
+module _ (s xs d : List ℕ) (start : ℕ) (r : MatchEnds) (d′ : List ℕ) (j : EndsMatches s xs d start r d′) (z : r .verdict .number ≡ 0) where
+  ends-pass : NotGiven (Check.refusals s ++ (wrongRoot s property ∷ tooMany s ∷ endsRest s (length xs) start (length d)))
+  ends-pass = ends-passes s (length xs) start (length d) (r .verdict) z (j .answer)
+
+  -- the ends of the matches of the sequence at the root, clocks and all, and whether it matches on into letters ⊤
+  pub ends-meant : (q : Seq ℕ) → RootS s q → Ends signal q xs start (r .mask .bits) × Tells (r .top) (Onward q xs start)
+  ends-meant q a =
+      let (p, b, m, t) = j .accepted z .ends in
+      subst (λ (q : Seq ℕ). Ends signal q xs start (r .mask .bits) × Tells (r .top) (Onward q xs start)) (uniqueS b a) (m, t)
+
+  module _ (clock : ℕ → Ref) (right : Clocks s clock) where
+    -- the rows, every bit
+    pub ends-rows-meant : Filled (newTable s clock) xs d d′
+    ends-rows-meant =
+        let (other, right′, f) = j .accepted z .rows in
+        let e = same-clocks s (wrongRoot s property) (endsRest s (length xs) start (length d)) ends-pass other clock right′ right in
+        subst (λ (κ : ℕ → Ref). Filled (newTable s κ) xs d d′) e f
+
+    -- the root's word at the start, and bit start of word 64
+    pub ends-in-the-rows : (r .mask .bits ≡ wordIn d′ (newCount s clock - 1) start) × (r .top ≡ bitIn d′ (newCount s clock - 1) topWord start)
+    ends-in-the-rows =
+        let x = wrongRoot s property in
+        let rest = endsRest s (length xs) start (length d) in
+        let keeps = new-keeps s x rest ends-pass clock right in
+        let within : start ≤ length xs = le-of-suc-le-suc (lt-of-not-le (λ g. own-parts s x rest ends-pass .1 .1 .1 .0 0 (refl, g))) in
+        let (q, a, m, t) = j .accepted z .ends in
+        let b = keeps .sequence q a in
+        let l = sound (newTable s clock) accepted (new-accepted s x rest ends-pass clock right) refl .formed .some in
+        let row = ends-rows-meant .sequences (root (newTable s clock)) (omega arith) (rewS free q) b in
+        let same = keeps .matches q (rewS free q) a b in
+        subst (λ (n : ℕ). (r .mask .bits ≡ wordIn d′ (n - 1) start) × (r .top ≡ bitIn d′ (n - 1) topWord start)) (count-is-new s x rest ends-pass clock right) (
+          ext (r .mask .bits) (wordIn d′ (root (newTable s clock)) start)
+              (λ i. same-test (record { to = λ h. same (word xs none) start i .0 (m i .0 h .1); from = λ h. let g = same (word xs none) start i .1 h in m i .1 (ends-inside xs q start i within g, g) }) (row .ends start within i)),
+          same-test (is-map t (λ h. (h .0, h .1, same (word xs tops) start (h .0) .0 (h .2))) (λ h. (h .0, h .1, same (word xs tops) start (h .0) .1 (h .2)))) (row .on start within),
+        )
+
+-- ---- demand 3: a longer record never overturns a 3 or a 0; strong implies neutral implies weak; the rewritten table gives the same three answers
+
+-- the judge is given xs, which it accepts, and then xs and more samples
+module _ (s xs ys d e : List ℕ) (r q : Judgement) (d′ e′ : List ℕ) (j : Judges s xs d r d′) (k : Judges s (xs ++ ys) e q e′) (z : r .verdict .number ≡ 0) where
+  -- it accepts these too, where they are 63 at most and the workspace is large enough
+  pub longer-accepted : length (xs ++ ys) ≤ longest → ((clock : ℕ → Ref) → Clocks s clock → share * newCount s clock ≤ length e) → q .verdict .number ≡ 0
+  unfolding judgeRefusals
+  longer-accepted short room =
+      let n = passes s xs d r d′ j z in
+      let own = own-parts s (wrongRoot s sequence) (judgeRest s (length xs) (length d)) n in
+      judge-accepts s (xs ++ ys) e q e′ k
+      (not-given-join (Check.refusals s) _ (not-given-append (Check.refusals s) _ n .0) (own .0, (own .1 .0, (λ i g. let l = g .1 in omega arith, (λ i g. let (clock, right, l) = g .1 in let h = room clock right in omega arith, tt))))) .0
+
+  module _ (y : q .verdict .number ≡ 0) where
+    -- the level of the longer record, where the level of the shorter goes on to m
+    goes-on : {l m : ℕ} → ((P : Prop ℕ) → Accepted signal free P → Level signal P xs l → Level signal P (xs ++ ys) m) → r .level .number ≡ l → q .level .number ≡ m
+    goes-on {l = l} {m = m} f e =
+        let (P, a, v) = j .accepted z .level in
+        level-only s (xs ++ ys) _ q e′ k y P a m (f P (root-accepted s xs d r d′ j z P a) (subst (Level signal P xs) e v))
+
+    pub held-stays : r .level .number ≡ 3 → q .level .number ≡ 3
+    held-stays = goes-on (λ P c. Meaning.held-stays signal P c xs ys)
+
+    pub broken-stays : r .level .number ≡ 0 → q .level .number ≡ 0
+    broken-stays = goes-on (λ P c. Meaning.broken-stays signal P c xs ys)
+
+module _ (s xs d : List ℕ) (r : Judgement) (d′ : List ℕ) (j : Judges s xs d r d′) (z : r .verdict .number ≡ 0) (clock : ℕ → Ref) (right : Clocks s clock) where
+  -- the root's row in the workspace, and what it says of the root of s
+  abbrev rootOf : ℕ
+  rootOf = newCount s clock - 1
+
+  pub answers-meant : (P : Prop ℕ) → RootP s P → (t : Tail) (i : ℕ) → i ≤ length xs → Tells (bitIn d′ rootOf (wordOf t) i) (Sat signal free P (word xs t) i)
+  answers-meant P a t i h =
+      let n = passes s xs d r d′ j z in
+      let w = wrongRoot s sequence in
+      let rest = judgeRest s (length xs) (length d) in
+      let keeps = new-keeps s w rest n clock right in
+      let c = count-is-new s w rest n clock right in
+      let l = sound (newTable s clock) accepted (new-accepted s w rest n clock right) refl .formed .some in
+      let b = keeps .property P a in
+      let row = rows-meant s xs d r d′ j z clock right .properties (root (newTable s clock)) (omega arith) (rewP free P) b in
+      is-like (subst (λ (m : ℕ). Tells (bitIn d′ (m - 1) (wordOf t) i) (Sat signal free (rewP free P) (word xs t) i)) c (row .answers t i h)) (keeps .answers P (rewP free P) a b xs t i)
+
+  -- in the workspace as in the meaning: strong implies neutral implies weak
+  pub answers-ordered : (T (bitIn d′ rootOf (wordOf bots) 0) → T (bitIn d′ rootOf (wordOf none) 0)) × (T (bitIn d′ rootOf (wordOf none) 0) → T (bitIn d′ rootOf (wordOf tops) 0))
+  answers-ordered =
+      let (P, a, _) = j .accepted z .level in
+      let c = root-accepted s xs d r d′ j z P a in (
+        λ h. answers-meant P a none 0 (omega arith) .from (Meaning.strong-implies-neutral signal P c xs (answers-meant P a bots 0 (omega arith) .to h)),
+        λ h. answers-meant P a tops 0 (omega arith) .from (Meaning.neutral-implies-weak signal P c xs (answers-meant P a none 0 (omega arith) .to h)),
+      )
+
+  -- the rewritten table's own answers are those of the clocked table,
+  pub rewritten-answers : (P Q : Prop ℕ) → RootP s P → RootP (newTable s clock) Q → (t : Tail) → Sat signal free P (word xs t) zero ↔ Sat signal free Q (word xs t) zero
+  rewritten-answers P Q a b t = new-keeps s (wrongRoot s sequence) (judgeRest s (length xs) (length d)) (passes s xs d r d′ j z) clock right .answers P Q a b xs t zero
+
+  -- and the judge, given the rewritten table and the same samples,
+  module _ (e : List ℕ) (q : Judgement) (e′ : List ℕ) (k : Judges (newTable s clock) xs e q e′) where
+    -- accepts it, where the workspace is large enough,
+    pub rewritten-accepted : share * newCount s clock ≤ length e → q .verdict .number ≡ 0
+    unfolding judgeRefusals
+    rewritten-accepted room =
+        let t = newTable s clock in
+        let x = wrongRoot s sequence in
+        let rest = judgeRest s (length xs) (length d) in
+        let n = passes s xs d r d′ j z in
+        let keeps = new-keeps s x rest n clock right in
+        let c = new-accepted s x rest n clock right in
+        let built = sound t accepted c refl .formed in
+        let few = few-nodes s x rest n clock right in
+        let m = count-is-new s x rest n clock right in
+        let same = same-count t built (keeps .clockless) in
+        let (P, a, _) = j .accepted z .level in
+        judge-accepts t xs e q e′ k
+        (not-given-join (Check.refusals t) _ (checks-given t accepted c refl) (
+          λ i g. let some = built .some in let (q, f) = sequence-in t (count t) (built .fit) (count t) (root t) (omega arith) (omega arith) (g .1) in not-both f (keeps .property P a),
+          (λ i g. let (other, right′, l) = g .1 in let h = same other right′ in omega arith, (λ i g. own-parts s x rest n .1 .1 .0 0 (refl, g .1), (λ i g. let (other, right′, l) = g .1 in let h = same other right′ in omega arith, tt))),
+        )) .0
+
+    -- and gives it the same level
+    pub rewritten-level : q .verdict .number ≡ 0 → r .level .number ≡ q .level .number
+    rewritten-level y =
+        let (P, a, l) = j .accepted z .level in
+        let keeps = new-keeps s (wrongRoot s sequence) (judgeRest s (length xs) (length d)) (passes s xs d r d′ j z) clock right in
+        let b = keeps .property P a in
+        sym (level-only (newTable s clock) xs e q e′ k y (rewP free P) b (r .level .number) (keeps .levels P (rewP free P) a b xs (r .level .number) .0 l))
+
+-- ---- the empty record leaves every accepted property open
+
+pub empty-open : (s d : List ℕ) (r : Judgement) (d′ : List ℕ) → Judges s [] d r d′ → r .verdict .number ≡ 0 → (r .level .number ≡ 1) ⊎ (r .level .number ≡ 2)
+empty-open s d r d′ j z = let (P, a, l) = j .accepted z .level in Meaning.empty-open signal P (root-accepted s [] d r d′ j z P a) l

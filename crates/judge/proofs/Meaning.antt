@@ -1,0 +1,161 @@
+-- The rows of an accepted table without clocks mean the trees that its nodes stand for: by induction on how a node stands for its tree, with no code.
+-- Assumes nothing.
+use mathlib.Core.Path.{_≡_, refl, ap, subst, _∙_}
+use mathlib.Core.Bool.{false, true≢false}
+use mathlib.Core.List.{List}
+use Prim.Native.Nat.{ℕ, _*_, _≤_, _<_}
+use native.Mathlib.Omega.{arith}
+use lib.Dec.{eqb}
+use lib.ListN.{length}
+use Rattle.refusal.specs.Heading.{count}
+use Rattle.refusal.specs.Computed.{accepted}
+use Rattle.meaning.specs.Syntax.{Bexp, Seq, Prop}
+use Rattle.table.specs.declared.nodes.Raw.{Raw}
+use Rattle.table.specs.declared.nodes.Node.{Node}
+use Rattle.table.specs.declared.nodes.Node.the-variants.{Boolean, Sequence, Property}
+use Rattle.table.specs.declared.nodes.BooleanOp.the-variants.{Constant, Signal, Not, And, Or}
+use Rattle.table.specs.declared.nodes.SequenceOp.the-variants.{Letter, Then, Fused, Either, Empty, Repeat, Clocked}
+use Rattle.table.specs.declared.nodes.PropertyOp.the-variants.{Strong, Weak, Negated, AnyOf, BothOf, Implies, Next, Until, Ticked}
+use Rattle.table.specs.Operators.{operators, lookup, rowOf, bytesOf, booleanBytes, sequenceBytes, propertyBytes}
+use Rattle.table.specs.Nodes.{nodeAt, Operand, WellFormed}
+use Rattle.table.specs.Trees.{BooleanAt, b-const, b-sig, b-not, b-and, b-or, SequenceAt, s-one, s-cat, s-fuse, s-alt, s-empty, s-plus, s-clock, PropertyAt, p-strong, p-weak, p-neg, p-either, p-both, p-imp, p-next, p-until, p-clock}
+use Rattle.table.specs.Check.{Checks}
+use Rattle.table.proofs.Forming.{coded-as}
+use Rattle.table.proofs.Shapes.{Formed, Suits, down}
+use Rattle.table.proofs.Checking.{sound}
+use Rattle.rewrite.specs.Numbers.{isClock}
+use Rattle.rows.specs.Shares.{share, longest, wordIn, Row}
+use Rattle.rows.specs.Rows.{rowsOf, filled, Ready}
+use Rattle.judge.specs.Rows.{BooleanRow, SequenceRow, PropertyRow, Filled}
+use Rattle.rows.proofs.Filling.{row-at, length-filled, filled-row, filled-rest}
+use Rattle.judge.proofs.WordBits.{Laid}
+use Rattle.judge.proofs.BooleanRows.{constant-row, signal-row, not-row, and-row, or-row}
+use Rattle.judge.proofs.SequenceRows.{letter-row, then-row, fused-row, either-row, empty-row, repeat-row}
+use Rattle.judge.proofs.PropertyRows.{strong-row, weak-row, negated-row, any-row, both-row, implies-row, next-row, until-row}
+
+module _ (t xs : List ℕ) (c : Checks t accepted) (plain : (k : ℕ) → k < count t → isClock t k ≡ false) (short : length xs ≤ longest) where
+  fit : (k : ℕ) → k < count t → WellFormed t k
+  fit = sound t accepted c refl .formed .fit
+
+  -- the bytes of a node whose kind is known
+  -- ---- the operands' rows lie below
+
+  low : {k x sort : ℕ} → Suits t k sort x → Row (share * k) x
+  low f = omega arith
+
+  signal-low : (k : ℕ) → k < count t → (x : ℕ) → nodeAt t k ≡ Boolean (Signal x) → x < 64
+  unfolding rowOf lookup operators bytesOf booleanBytes
+  signal-low k h x e =
+      subst (λ (r : Raw). Operand t k (rowOf (r .op) .x) (rowOf (r .op) .limit) (r .x)) (coded-as t k (fit k h) e) (fit k h .x) .number refl
+
+  ready : (k : ℕ) → k < count t → (v : Node) → nodeAt t k ≡ v → Formed (Suits t k) v → Ready (share * k) v
+  ready k h (Boolean (Constant v)) e f = tt
+  ready k h (Boolean (Signal x)) e f = signal-low k h x e
+  ready k h (Boolean (Not x)) e f = low f
+  ready k h (Boolean (And x y)) e f = (low (f .0), low (f .1))
+  ready k h (Boolean (Or x y)) e f = (low (f .0), low (f .1))
+  ready k h (Sequence (Letter x)) e f = low f
+  ready k h (Sequence (Then x y)) e f = (low (f .0), low (f .1))
+  ready k h (Sequence (Fused x y)) e f = (low (f .0), low (f .1))
+  ready k h (Sequence (Either x y)) e f = (low (f .0), low (f .1))
+  ready k h (Sequence (Empty x)) e f = tt
+  ready k h (Sequence (Repeat x)) e f = low f
+  ready k h (Sequence (Clocked d x)) e f = tt
+  ready k h (Property (Strong x)) e f = low f
+  ready k h (Property (Weak x)) e f = low f
+  ready k h (Property (Negated x)) e f = low f
+  ready k h (Property (AnyOf x y)) e f = (low (f .0), low (f .1))
+  ready k h (Property (BothOf x y)) e f = (low (f .0), low (f .1))
+  ready k h (Property (Implies x y)) e f = (low (f .0), low (f .1))
+  ready k h (Property (Next x)) e f = low f
+  ready k h (Property (Until x y)) e f = (low (f .0), low (f .1))
+  ready k h (Property (Ticked d x)) e f = tt
+
+  pub rows-ready : (k : ℕ) → k < count t → Ready (share * k) (nodeAt t k)
+  rows-ready k h = ready k h (nodeAt t k) refl (down t k (fit k h) refl)
+
+  -- ---- there are no clock nodes
+
+  blocked : (k : ℕ) → k < count t → {v : Node} → nodeAt t k ≡ v → eqb (rowOf (bytesOf v .op) .block) 0 ≡ false
+  unfolding isClock
+  blocked k h e = subst (λ (r : Raw). eqb (rowOf (r .op) .block) 0 ≡ false) (coded-as t k (fit k h) e) (plain k h)
+
+  no-clocked : (k : ℕ) → k < count t → (d x : ℕ) → ¬ (nodeAt t k ≡ Sequence (Clocked d x))
+  unfolding rowOf lookup operators bytesOf sequenceBytes
+  no-clocked k h d x e = true≢false (blocked k h e)
+
+  no-ticked : (k : ℕ) → k < count t → (d x : ℕ) → ¬ (nodeAt t k ≡ Property (Ticked d x))
+  unfolding rowOf lookup operators bytesOf propertyBytes
+  no-ticked k h d x e = true≢false (blocked k h e)
+
+  -- ---- the induction
+
+  -- D has row k, made of the rows below it
+  record Placed (D : List ℕ) (k : ℕ) : Type 0 where
+    inside : k < count t
+    made : Laid xs (rowsOf t xs k) (nodeAt t k) (wordIn D k)
+
+  module _ {D : List ℕ} {k : ℕ} (w : Placed D k) where
+    -- of a node whose kind is known: its row,
+    made-as : {v : Node} → nodeAt t k ≡ v → Laid xs (rowsOf t xs k) v (wordIn D k)
+    made-as e = subst (λ v. Laid xs (rowsOf t xs k) v (wordIn D k)) e (w .made)
+
+    -- its operands,
+    operands : {v : Node} → nodeAt t k ≡ v → Formed (Suits t k) v
+    operands e = down t k (fit k (w .inside)) e
+
+    -- and their rows
+    below : {x sort : ℕ} → Suits t k sort x → Placed (rowsOf t xs k) x
+    below {x} f = let h = w .inside in record { inside = omega arith; made = record { word = λ i l. row-at t xs k x i (f .0) l } }
+
+  boolean-means : {D : List ℕ} {k : ℕ} {b : Bexp ℕ} → BooleanAt (nodeAt t) k b → Placed D k → BooleanRow xs (wordIn D k) b
+  boolean-means (b-const {v = v} e) w = constant-row xs _ short _ v (made-as w e)
+  boolean-means (b-sig e) w = signal-row xs _ short _ _ (made-as w e)
+  boolean-means (b-not e p) w = let f = operands w e in not-row xs _ short _ _ _ (boolean-means p (below w f)) (made-as w e)
+  boolean-means (b-and e p q) w =
+      let (f, g) = operands w e in and-row xs _ short _ _ _ (boolean-means p (below w f)) _ _ (boolean-means q (below w g)) (made-as w e)
+  boolean-means (b-or e p q) w =
+      let (f, g) = operands w e in or-row xs _ short _ _ _ (boolean-means p (below w f)) _ _ (boolean-means q (below w g)) (made-as w e)
+
+  sequence-means : {D : List ℕ} {k : ℕ} {r : Seq ℕ} → SequenceAt (nodeAt t) k r → Placed D k → SequenceRow xs (wordIn D k) r
+  sequence-means (s-one e p) w = let f = operands w e in letter-row xs _ short _ _ _ (boolean-means p (below w f)) (made-as w e)
+  sequence-means (s-cat e p q) w =
+      let (f, g) = operands w e in then-row xs _ short _ _ _ _ _ (sequence-means p (below w f)) (sequence-means q (below w g)) (made-as w e)
+  sequence-means (s-fuse e p q) w =
+      let (f, g) = operands w e in fused-row xs _ short _ _ _ _ _ (sequence-means p (below w f)) (sequence-means q (below w g)) (made-as w e)
+  sequence-means (s-alt e p q) w =
+      let (f, g) = operands w e in either-row xs _ short _ _ _ _ _ (sequence-means p (below w f)) (sequence-means q (below w g)) (made-as w e)
+  sequence-means (s-empty e p) w = empty-row xs _ short _ _ _ (made-as w e)
+  sequence-means (s-plus e p) w = let f = operands w e in repeat-row xs _ short _ _ _ (sequence-means p (below w f)) (made-as w e)
+  sequence-means (s-clock {k = k} {c = d} {x = x} e p q) w = absurd (no-clocked k (w .inside) d x e)
+
+  property-means : {D : List ℕ} {k : ℕ} {P : Prop ℕ} → PropertyAt (nodeAt t) k P → Placed D k → PropertyRow xs (wordIn D k) P
+  property-means (p-strong e p) w = let f = operands w e in strong-row xs _ short _ _ _ (sequence-means p (below w f)) (made-as w e)
+  property-means (p-weak e p) w = let f = operands w e in weak-row xs _ short _ _ _ (sequence-means p (below w f)) (made-as w e)
+  property-means (p-neg e p) w = let f = operands w e in negated-row xs _ short _ _ _ (property-means p (below w f)) (made-as w e)
+  property-means (p-either e p q) w =
+      let (f, g) = operands w e in any-row xs _ short _ _ _ (property-means p (below w f)) _ _ (property-means q (below w g)) (made-as w e)
+  property-means (p-both e p q) w =
+      let (f, g) = operands w e in both-row xs _ short _ _ _ (property-means p (below w f)) _ _ (property-means q (below w g)) (made-as w e)
+  property-means (p-imp e p q) w =
+      let (f, g) = operands w e in implies-row xs _ short _ _ _ (sequence-means p (below w f)) _ _ (property-means q (below w g)) (made-as w e)
+  property-means (p-next e p) w = let f = operands w e in next-row xs _ short _ _ _ (property-means p (below w f)) (made-as w e)
+  property-means (p-until e p q) w =
+      let (f, g) = operands w e in until-row xs _ short _ _ _ (property-means p (below w f)) _ _ (property-means q (below w g)) (made-as w e)
+  property-means (p-clock {k = k} {c = d} {x = x} e p q) w = absurd (no-ticked k (w .inside) d x e)
+
+  -- what `fill` leaves is what the page says
+  pub rows-mean : (d out : List ℕ) → share * count t ≤ length d → out ≡ filled t xs d (count t) → Filled t xs d out
+  rows-mean d out h e = record {
+    long = ap length e ∙ length-filled t xs d (count t) h;
+    booleans = λ k l b s. boolean-means s (at k l);
+    sequences = λ k l r s. sequence-means s (at k l);
+    properties = λ k l P s. property-means s (at k l);
+    stay = λ j l. rw e (filled-rest t xs d (count t) j l);
+  }
+    where
+      at : (k : ℕ) → k < count t → Placed out k
+      at k l = record {
+        inside = l;
+        made = record { word = λ i u. rw e (filled-row t xs d (count t) k i l u) ∙ row-at t xs (count t) k i l u };
+      }

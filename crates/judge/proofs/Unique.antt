@@ -1,0 +1,123 @@
+-- The statements of the judge and of match ends leave nothing open: two answers that fit are the same, and so are the workspaces left. Assumes nothing.
+use borrow.Author.Tests.{eqb-true, eqb-false}
+use mathlib.Core.Path.{_≡_, refl, _∙_, sym, ap, subst}
+use mathlib.Core.Bool.{Bool, true, false}
+use mathlib.Core.List.{List, _∷_, _++_}
+use Prim.Native.Nat.{ℕ}
+use lib.Dec.{eqb}
+use lib.ListN.{length}
+use Rattle.tests.specs.Tests.{Tells}
+use Rattle.tests.proofs.Telling.{same-test}
+use Rattle.positions.proofs.Laws.{ext}
+use Rattle.refusal.specs.declared.Verdict.{Verdict}
+use Rattle.refusal.specs.First.{Refusal, NotGiven}
+use Rattle.refusal.specs.Computed.{accepted}
+use Rattle.refusal.proofs.Deciding.{Singles, single-when, singles-append, answers-unique}
+use Rattle.meaning.specs.Syntax.{Seq, Prop}
+use Rattle.meaning.specs.Meaning.{Level, Ends}
+use Rattle.meaning.specs.Signal.{signal}
+use Rattle.meaning.proofs.Theorems.{level-unique}
+use Rattle.table.specs.Trees.{Ref}
+use Rattle.table.specs.Check as Check
+use Rattle.table.proofs.Checking.{table-singles}
+use Rattle.table.proofs.Reading.{uniqueS, uniqueP}
+use Rattle.table.proofs.Theorems.{accepted-root}
+use Rattle.rewrite.specs.Clocks.{Clocks}
+use Rattle.rewrite.specs.Tables.{newTable}
+use Rattle.rewrite.specs.Rewrites.{OfClocks, tooMany}
+use Rattle.judge.specs.declared.Judgement.{Judgement}
+use Rattle.judge.specs.declared.MatchEnds.{MatchEnds}
+use Rattle.judge.specs.Rows.{Onward}
+use Rattle.judge.specs.Refusals.{judgeRefusals, endsRefusals}
+use Rattle.judge.specs.Judges.{Rowed, Judged, Judges, Ended, EndsMatches}
+use Rattle.judge.proofs.Passing.{judgeRest, endsRest, judge-passes, ends-passes, table-checks, same-clocks, new-accepted}
+use Rattle.judge.proofs.Same.{filled-unique}
+
+-- ---- verdicts
+
+pub judge-singles : (s : List ℕ) (n words : ℕ) → Singles (judgeRefusals s n words)
+unfolding judgeRefusals
+judge-singles s n words =
+    singles-append (Check.refusals s) _ (table-singles s) (single-when 12 _, (single-when 13 _, (single-when 10 _, (single-when 11 _, tt))))
+
+pub ends-singles : (s : List ℕ) (n start words : ℕ) → Singles (endsRefusals s n start words)
+unfolding endsRefusals
+ends-singles s n start words =
+    singles-append (Check.refusals s) _ (table-singles s) (single-when 12 _, (single-when 13 _, (single-when 10 _, (single-when 14 _, (single-when 11 _, tt)))))
+
+-- ---- what an acceptance answers and leaves
+
+module _ (s : List ℕ) (x : Refusal) (rest : List Refusal) (n : NotGiven (Check.refusals s ++ (x ∷ tooMany s ∷ rest))) where
+  -- two of the same of the clocks are the same
+  by-clocks : {P Q : (ℕ → Ref) → Type 0} {A : Type 0} → ((clock : ℕ → Ref) → Clocks s clock → P clock → Q clock → A) → OfClocks s P → OfClocks s Q → A
+  by-clocks {Q = Q} f (clock, right, p) (other, right′, q) =
+      f clock right p (subst Q (same-clocks s x rest n other clock right′ right) q)
+
+  same-rows : (xs d d′ e′ : List ℕ) → Rowed s xs d d′ → Rowed s xs d e′ → d′ ≡ e′
+  same-rows xs d d′ e′ = by-clocks (λ clock right a b. filled-unique (newTable s clock) xs (new-accepted s x rest n clock right) d d′ e′ a b)
+
+  same-judgement : (xs d : List ℕ) (r q : Judgement) (d′ e′ : List ℕ) → r .verdict ≡ q .verdict → Judged s xs d r d′ → Judged s xs d q e′ → (r ≡ q) × (d′ ≡ e′)
+  same-judgement xs d r q d′ e′ v a b = (λ i. record { verdict = v i; level = levels i; tested = tests i }, same-rows xs d d′ e′ (a .rows) (b .rows))
+    where
+      numbers : r .level .number ≡ q .level .number
+      numbers =
+          let (P, f, l) = a .level in
+          let (Q, g, m) = b .level in
+          level-unique signal P (accepted-root s accepted (table-checks s x rest n) refl P f) xs l (subst (λ (Q : Prop ℕ). Level signal Q xs (q .level .number)) (uniqueP g f) m)
+
+      levels : r .level ≡ q .level
+      levels = λ i. record { number = numbers i }
+
+      tests : r .tested ≡ q .tested
+      tests = by-clocks (λ clock right f g. same-test f g) (a .tested) (b .tested)
+
+  same-ends : (xs d : List ℕ) (start : ℕ) (r q : MatchEnds) (d′ e′ : List ℕ) → r .verdict ≡ q .verdict → Ended s xs d start r d′ → Ended s xs d start q e′ → (r ≡ q) × (d′ ≡ e′)
+  same-ends xs d start r q d′ e′ v a b = (λ i. record { verdict = v i; mask = record { bits = masks i }; top = tops i }, same-rows xs d d′ e′ (a .rows) (b .rows))
+    where
+      -- both are of one sequence
+      both : (p : Seq ℕ) × Ends signal p xs start (r .mask .bits) × Ends signal p xs start (q .mask .bits) × Tells (r .top) (Onward p xs start) × Tells (q .top) (Onward p xs start)
+      both =
+          let (p, f, m, t) = a .ends in
+          let (p′, f′, m′, t′) = b .ends in
+          let e = uniqueS f′ f in
+          (p, m, subst (λ (p : Seq ℕ). Ends signal p xs start (q .mask .bits)) e m′, t, subst (λ (p : Seq ℕ). Tells (q .top) (Onward p xs start)) e t′)
+
+      masks : r .mask .bits ≡ q .mask .bits
+      masks = let (p, m, m′, t, t′) = both in ext (r .mask .bits) (q .mask .bits) (λ j. same-test (record { to = m j .0; from = m j .1 }) (record { to = m′ j .0; from = m′ j .1 }))
+
+      tops : r .top ≡ q .top
+      tops = let (p, m, m′, t, t′) = both in same-test t t′
+
+-- ---- the two entry points
+
+pub judge-unique : (s xs d : List ℕ) (r q : Judgement) (d′ e′ : List ℕ) → Judges s xs d r d′ → Judges s xs d q e′ → (r ≡ q) × (d′ ≡ e′)
+judge-unique s xs d r q d′ e′ a b = go (eqb (r .verdict .number) 0) refl
+  where
+    same : r .verdict ≡ q .verdict
+    same = answers-unique (judgeRefusals s (length xs) (length d)) (judge-singles s (length xs) (length d)) (r .verdict) (q .verdict) (a .answer) (b .answer)
+
+    go : (t : Bool) → eqb (r .verdict .number) 0 ≡ t → (r ≡ q) × (d′ ≡ e′)
+    go true t =
+        let z = eqb-true (r .verdict .number) 0 t in
+        same-judgement s _ (judgeRest s (length xs) (length d)) (judge-passes s (length xs) (length d) (r .verdict) z (a .answer)) xs d r q d′ e′ same (a .accepted z) (b .accepted (sym (ap (λ (v : Verdict). v .number) same) ∙ z))
+    go false t =
+        let z = eqb-false (r .verdict .number) 0 t in
+        let (l, c, w) = a .refused z in
+        let (l′, c′, w′) = b .refused (λ y. z (ap (λ (v : Verdict). v .number) same ∙ y)) in
+        (λ i. record { verdict = same i; level = record { number = (l ∙ sym l′) i }; tested = (c ∙ sym c′) i }, w ∙ sym w′)
+
+pub ends-unique : (s xs d : List ℕ) (start : ℕ) (r q : MatchEnds) (d′ e′ : List ℕ) → EndsMatches s xs d start r d′ → EndsMatches s xs d start q e′ → (r ≡ q) × (d′ ≡ e′)
+ends-unique s xs d start r q d′ e′ a b = go (eqb (r .verdict .number) 0) refl
+  where
+    same : r .verdict ≡ q .verdict
+    same = answers-unique (endsRefusals s (length xs) start (length d)) (ends-singles s (length xs) start (length d)) (r .verdict) (q .verdict) (a .answer) (b .answer)
+
+    go : (t : Bool) → eqb (r .verdict .number) 0 ≡ t → (r ≡ q) × (d′ ≡ e′)
+    go true t =
+        let z = eqb-true (r .verdict .number) 0 t in
+        same-ends s _ (endsRest s (length xs) start (length d)) (ends-passes s (length xs) start (length d) (r .verdict) z (a .answer)) xs d start r q d′ e′ same (a .accepted z) (b .accepted (sym (ap (λ (v : Verdict). v .number) same) ∙ z))
+    go false t =
+        let z = eqb-false (r .verdict .number) 0 t in
+        let (l, c, w) = a .refused z in
+        let (l′, c′, w′) = b .refused (λ y. z (ap (λ (v : Verdict). v .number) same ∙ y)) in
+        (λ i. record { verdict = same i; mask = record { bits = (l ∙ sym l′) i }; top = (c ∙ sym c′) i }, w ∙ sym w′)

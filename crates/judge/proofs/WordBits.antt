@@ -1,0 +1,29 @@
+-- The words of a node's row, and a place of a word that is made of a test. Assumes nothing.
+use mathlib.Core.Path.{_≡_, _∙_, ap}
+use mathlib.Core.Bool.{Bool, false, _&&_, and-false}
+use mathlib.Core.List.{List}
+use Prim.Native.Nat.{ℕ, _<_}
+use lib.Dec.{ltb}
+use borrow.Author.Tests.{lt-ltb}
+use Rattle.tests.specs.Tests.{Tells}
+use Rattle.tests.proofs.Telling.{is-map, is-and, is-lt, is-as}
+use Rattle.positions.specs.Member.{has}
+use Rattle.positions.proofs.Laws.{has-collect}
+use Rattle.table.specs.declared.nodes.Node.{Node}
+use Rattle.rows.specs.Shares.{share}
+use Rattle.rows.specs.Rows.{set64, nodeWord}
+
+-- `row` is the row of the node v on the samples xs, made of the rows R below. A record, so that all four are read off a proof's type
+pub record Laid (xs R : List ℕ) (v : Node) (row : ℕ → ℕ) : Type 0 where
+  pub word : (i : ℕ) → i < share → row i ≡ nodeWord R xs v i
+
+-- what the test tells holds of places below 64 alone
+pub in-word : (f : ℕ → Bool) (j : ℕ) {P : Type 0} → (P → j < 64) → Tells (f j) P → Tells (has (set64 f) j) P
+in-word f j g h = is-as (has-collect 64 f j) (is-map (is-and (is-lt j 64) h) (λ q. q .1) (λ p. (g p, p)))
+
+pub off-word : (f : ℕ → Bool) (j : ℕ) → f j ≡ false → has (set64 f) j ≡ false
+off-word f j e = has-collect 64 f j ∙ rw e (and-false (ltb j 64))
+
+-- a set holds the places below 64 that pass
+pub has-word : (f : ℕ → Bool) (k : ℕ) → k < 64 → has (set64 f) k ≡ f k
+has-word f k h = has-collect 64 f k ∙ ap (λ b. b && f k) (lt-ltb k 64 h)
