@@ -2,7 +2,12 @@
 use crate::nodes::put_table;
 use crate::output::put_bytes;
 use crate::print::put;
+use crate::print::put_hex;
 use crate::print::put_number;
+use crate::print::put_yes;
+use crate::shares::put_shares;
+use judge::Judgement;
+use judge::MatchEnds;
 use refusal::Verdict;
 
 // A line that is no case.
@@ -45,6 +50,35 @@ pub fn rewriting(label: &[u8], v: Verdict, count: usize, out: &[u8]) -> bool {
         && put(b", bytes")
         && put_output(v, count, out)
         && put(b"\n")
+}
+
+// What the judge answered, and the words that were lent.
+pub fn judgement(label: &[u8], got: Judgement, words: &[u64]) -> bool {
+    put_judged(label, got.verdict)
+        && put(b"level ")
+        && put_number(got.level.number as u64)
+        && put(b" tested ")
+        && put_yes(got.tested)
+        && put_lent(words)
+}
+
+// What match ends answered, and the words that were lent.
+pub fn ends(label: &[u8], got: MatchEnds, words: &[u64]) -> bool {
+    put_judged(label, got.verdict)
+        && put(b"ends ")
+        && put_hex(got.mask.bits, 1)
+        && put(b" top ")
+        && put_yes(got.top)
+        && put_lent(words)
+}
+
+// The label, and the refusal where there is one; the rest of the answer follows.
+fn put_judged(label: &[u8], v: Verdict) -> bool {
+    put(label) && put(b": ") && (accepted(v) || put_refusal(v) && put(b", "))
+}
+
+fn put_lent(words: &[u64]) -> bool {
+    put(b", words") && put_shares(words) && put(b"\n")
 }
 
 // How many samples were read or nodes written, or the refusal with the count that came with it.

@@ -1,5 +1,7 @@
 // One line of the input: a case, a comment, blank, or none of these.
 use crate::answers;
+use crate::judging;
+use crate::lists;
 use crate::output;
 use crate::text;
 
@@ -15,13 +17,22 @@ pub fn run(line: &[u8]) -> bool {
     if colon == line.len() {
         return answers::unread(line);
     }
+    run_body(line, &line[0..colon], &line[colon + 1..])
+}
+
+// A case's bytes end at a slash, where there is one, and samples for the judge follow it.
+fn run_body(line: &[u8], head: &[u8], body: &[u8]) -> bool {
+    let slash = text::first(body, 0, b'/', true);
     let mut space = [0u8; 2048];
-    let bytes = text::bytes(&line[colon + 1..], &mut space);
+    let bytes = lists::bytes(&body[0..slash], &mut space);
     let count = bytes.count;
     if !bytes.good {
         return answers::unread(line);
     }
-    call(line, &line[0..colon], &space[0..count])
+    if slash == body.len() {
+        return call(line, head, &space[0..count]);
+    }
+    judging::run(line, head, &space[0..count], &body[slash + 1..])
 }
 
 // Calls the entry point that the head names.
@@ -43,9 +54,9 @@ fn call(line: &[u8], head: &[u8], bytes: &[u8]) -> bool {
 
 // Reads a record into as many words as the text, a number and a label, begins with.
 fn read(line: &[u8], text: &[u8], bytes: &[u8]) -> bool {
-    let asked = text::size(text, 64);
-    let lent = asked.lent;
-    let label = asked.label;
+    let asked = text::opening(text, 64);
+    let lent = asked.value;
+    let label = asked.rest;
     if !asked.good {
         return answers::unread(line);
     }
@@ -61,9 +72,9 @@ fn read_into(label: &[u8], bytes: &[u8], words: &mut [u64]) -> bool {
 
 // Rewrites a table into as many bytes as the text, a number and a label, begins with.
 fn rewrite_table(line: &[u8], text: &[u8], bytes: &[u8]) -> bool {
-    let asked = text::size(text, 500);
-    let lent = asked.lent;
-    let label = asked.label;
+    let asked = text::opening(text, 500);
+    let lent = asked.value;
+    let label = asked.rest;
     if !asked.good {
         return answers::unread(line);
     }

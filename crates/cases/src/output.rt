@@ -1,7 +1,7 @@
 // The bytes that are lent to `rewrite`. Before the call place i holds 128 + i % 127, so that a byte which was written or moved is seen: a table's bytes are all below 128. Only a move by a multiple of 127 places would not be seen.
 use crate::print::put;
-use crate::print::put_byte;
-use crate::print::put_number;
+use crate::print::put_hex;
+use crate::print::put_kept;
 ghost use Prim.Native.Nat.{_≤_};
 ghost use lib.ListN.{length};
 
@@ -34,16 +34,8 @@ fn changed(out: &[u8], from: usize) -> usize
     i
 }
 
-// So many bytes that hold what was lent.
-fn put_kept(times: usize) -> bool {
-    if times == 0 {
-        return true;
-    }
-    put(b" kept*") && put_number(times as u64)
-}
-
 fn put_changed(byte: u8) -> bool {
-    put(b" ") && put_byte(byte)
+    put(b" ") && put_hex(byte as u64, 2)
 }
 
 // The bytes from a place on: how many hold what was lent, then the next one that does not, and so on.

@@ -1,20 +1,20 @@
--- `cases::text::bytes` meets its contract: each word begins past the one before, and the bytes put lie within the slice. Assumes nothing.
+-- `cases::lists::numbers` meets its contract: each word begins past the one before, and the numbers put lie within the slice. Assumes nothing.
 use Prim.Native.Nat.{_≤_, _-_}
 use mathlib.Core.Path.{_≡_}
 use borrow.Author.Needs.{needs}
 use lib.ListN.{length}
-use Rattle.cases.proofs.text.bytes.Statement.{statement}
-use Rattle.cases.proofs.text.bytes.Tie as tie
+use Rattle.cases.proofs.lists.numbers.Statement.{statement}
+use Rattle.cases.proofs.lists.numbers.Tie as tie
 
 abbrev Inv-loop : tie.InvT-loop
-Inv-loop text out₀ taken₀ at₀ out taken at =
+Inv-loop text least most out₀ taken₀ at₀ out taken at =
     (at ≤ length text) × (taken .count ≤ length out) × (length out ≡ length out₀)
 
 abbrev μ-loop : tie.MeasureT-loop
-μ-loop text out₀ taken₀ at₀ out taken at = length text - at
+μ-loop text least most out₀ taken₀ at₀ out taken at = length text - at
 
-pub bytes-spec : {M : Type 1} → statement M
-bytes-spec =
+pub numbers-spec : {M : Type 1} → statement M
+numbers-spec =
     tie.close
     (tie.spec
     Inv-loop
@@ -26,6 +26,7 @@ bytes-spec =
     (λ c. search needs)
     (λ c. search needs)
     (λ c. search needs)
+    (λ c κs. search needs)
     (λ c κs. search needs)
     (λ c. search needs)
     (λ c. search needs)

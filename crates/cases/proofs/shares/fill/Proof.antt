@@ -1,16 +1,16 @@
--- `cases::text::fill` is safe and ends: the slice keeps its length. Assumes nothing.
-use Prim.Native.Nat.{_+_, _≤_, _-_}
+-- `cases::shares::fill` is safe and ends: the slice keeps its length. Assumes nothing.
+use Prim.Native.Nat.{_≤_, _-_}
 use mathlib.Core.Path.{_≡_}
 use borrow.Author.Needs.{needs}
 use lib.ListN.{length}
-use Rattle.cases.proofs.text.fill.Statement.{statement}
-use Rattle.cases.proofs.text.fill.Tie as tie
+use Rattle.cases.proofs.shares.fill.Statement.{statement}
+use Rattle.cases.proofs.shares.fill.Tie as tie
 
 abbrev Inv-loop : tie.InvT-loop
-Inv-loop out₀ from times byte i₀ out i = (i ≤ times) × (length out ≡ length out₀) × (from + times ≤ length out₀)
+Inv-loop words₀ i₀ words i = (i ≤ length words₀) × (length words ≡ length words₀)
 
 abbrev μ-loop : tie.MeasureT-loop
-μ-loop out₀ from times byte i₀ out i = times - i
+μ-loop words₀ i₀ words i = length words₀ - i
 
 pub fill-spec : {M : Type 1} → statement M
 fill-spec =
@@ -19,6 +19,7 @@ fill-spec =
     Inv-loop
     μ-loop
     (λ c. search needs)
+    (λ c κs. search needs)
     (λ c. search needs)
     (λ c. search needs)
     (λ c. search needs)
