@@ -2,7 +2,7 @@
 -- the samples xs and the workspace d the answer is r and the workspace left is d′. Assumes nothing.
 use native.Mathlib.Omega.{arith}
 use native.Mathlib.Nat.{le-of-suc-le-suc, lt-of-not-le}
-use mathlib.Core.Path.{_≡_, refl, _∙_, sym, subst}
+use mathlib.Core.Path.{_≡_, refl, sym, subst}
 use mathlib.Core.Bool.{false}
 use mathlib.Core.Logic.{_⊎_, _↔_}
 use mathlib.Core.List.{List, [], _∷_, _++_}
@@ -12,10 +12,10 @@ use lib.ListN.{length}
 use Rattle.tests.specs.Tests.{Tells}
 use Rattle.tests.proofs.Telling.{is-map, is-like, same-test}
 use Rattle.positions.proofs.Laws.{ext}
-use Rattle.refusal.specs.First.{Refusal, Answers, NotGiven, FirstGiven}
+use Rattle.refusal.specs.First.{Refusal, NotGiven, FirstGiven}
 use Rattle.refusal.specs.Heading.{count}
 use Rattle.refusal.specs.Computed.{accepted}
-use Rattle.refusal.proofs.Deciding.{Singles, numbered, numbered-in, given-answered, answered-given, none-answered, not-given-append, not-given-join}
+use Rattle.refusal.proofs.Deciding.{numbered, given-refused, answered-given, none-answered, not-given-append, not-given-join}
 use Rattle.meaning.specs.Syntax.{Seq, Prop, free}
 use Rattle.meaning.specs.Words.{Tail, none, tops, bots, word}
 use Rattle.meaning.specs.Meaning.{Sat, Accepted, Level, Ends}
@@ -59,9 +59,8 @@ module _ (s xs d : List ℕ) (r : Judgement) (d′ : List ℕ) (j : Judges s xs 
       → NotGiven before → (k : ℕ) → x .given k
       → (r .verdict .number ≡ x .number) × (r .verdict .node ≡ k) × (r .level .number ≡ 0) × (r .tested ≡ false) × (d′ ≡ d)
   judge-refuses before x after e n k g =
-      let single = subst Singles e (judge-singles s (length xs) (length d)) in
-      let (a, b) = given-answered before x after single n k g (r .verdict) (subst (λ (rs : List Refusal). Answers rs (r .verdict)) e (j .answer)) in
-      let (l, t, w) = j .refused (λ y. numbered-in before x after (subst (λ (rs : List Refusal). T (numbered rs)) e numbers) (sym a ∙ y)) in
+      let (a, b, z) = given-refused (judgeRefusals s (length xs) (length d)) (judge-singles s (length xs) (length d)) numbers before x after e n k g (r .verdict) (j .answer) in
+      let (l, t, w) = j .refused z in
       (a, b, l, t, w)
 
   -- what is answered is given, and none before it
@@ -82,9 +81,8 @@ module _ (s xs d : List ℕ) (start : ℕ) (r : MatchEnds) (d′ : List ℕ) (j 
       → NotGiven before → (k : ℕ) → x .given k
       → (r .verdict .number ≡ x .number) × (r .verdict .node ≡ k) × (r .mask .bits ≡ 0) × (r .top ≡ false) × (d′ ≡ d)
   ends-refuses before x after e n k g =
-      let single = subst Singles e (ends-singles s (length xs) start (length d)) in
-      let (a, b) = given-answered before x after single n k g (r .verdict) (subst (λ (rs : List Refusal). Answers rs (r .verdict)) e (j .answer)) in
-      let (l, t, w) = j .refused (λ y. numbered-in before x after (subst (λ (rs : List Refusal). T (numbered rs)) e ends-numbers) (sym a ∙ y)) in
+      let (a, b, z) = given-refused (endsRefusals s (length xs) start (length d)) (ends-singles s (length xs) start (length d)) ends-numbers before x after e n k g (r .verdict) (j .answer) in
+      let (l, t, w) = j .refused z in
       (a, b, l, t, w)
 
   pub ends-refused-rightly : ¬ (r .verdict .number ≡ 0) → FirstGiven (endsRefusals s (length xs) start (length d)) (r .verdict)

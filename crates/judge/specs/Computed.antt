@@ -7,7 +7,6 @@ use lib.Dec.{eqb}
 use lib.ListN.{length, take}
 use Rattle.tests.specs.Tests.{some}
 use Rattle.refusal.specs.First.{Refusal, Answers}
-use Rattle.refusal.specs.Computed.{refused}
 use Rattle.meaning.specs.Levels.{levelOf}
 use Rattle.table.specs.Nodes.{rawAt}
 use Rattle.table.specs.Check as Check
@@ -30,10 +29,6 @@ settling s wrong n start words =
 pub record Settles (s : List ℕ) (wrong n start words : ℕ) (r : Rewriting) (new : List ℕ) : Type 0 where
   pub answer : Answers (settling s wrong n start words) (r .verdict)
   pub accepted : r .verdict .number ≡ 0 → OfClocks s (λ clock. (r .count ≡ newCount s clock) × (take (4 * r .count + 6) new ≡ newTable s clock))
-
--- a refusal at node 0, with count 0
-abbrev pub refusing : ℕ → Rewriting
-refusing number = record { verdict = refused number 0; count = 0 }
 
 -- ---- reading
 

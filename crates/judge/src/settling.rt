@@ -1,24 +1,14 @@
 // What a call refuses, and what it needs of the table: both are settled here, before anything is written.
-use refusal::Verdict;
 use refusal::wide;
 use rewrite::Rewriting;
+use rewrite::refused;
 use rewrite::rewrite;
 use rows::cells::LONGEST;
 use rows::cells::SHARE;
 use table::nodes::sort_at;
 ghost use mathlib.Core.Path.{_≡_};
 ghost use lib.ListN.{length};
-ghost use Rattle.judge.specs.Computed.{Settles, refusing};
-
-// A refusal at node 0, with count 0.
-fn refuse(number: u8) -> Rewriting
-    ensures { λ r. ⌜ r ≡ refusing number ⌝ }
-{
-    Rewriting {
-        verdict: Verdict { number, node: 0 },
-        count: 0,
-    }
-}
+ghost use Rattle.judge.specs.Computed.{Settles};
 
 // The first refusal that applies of 1 to 9, 12, 13, 10, 14 and 11, where `wrong` is the sort that the root must not have; with none, the rewritten table in
 // the first bytes of `new`, which has room for 120 nodes, and its count. 12 comes before 13, so the root is asked before a 13 of rewriting is passed on.
@@ -41,19 +31,19 @@ pub fn settle(
     }
     let root = wide(b[5]) - 1;
     if sort_at(b, root) == wrong {
-        return refuse(12);
+        return refused(12, 0);
     }
     if v.number != 0 {
         return rewriting;
     }
     if LONGEST < n {
-        return refuse(10);
+        return refused(10, 0);
     }
     if n < start {
-        return refuse(14);
+        return refused(14, 0);
     }
     if words < SHARE * rewriting.count {
-        return refuse(11);
+        return refused(11, 0);
     }
     rewriting
 }

@@ -1,7 +1,7 @@
 -- What is computed in Computed.antt is what First.antt says, and nothing else is: from tests that decide the refusals, one by one.
 -- Assumes nothing.
 use borrow.Author.Tests.{ltb-true, ltb-false, lt-ltb}
-use mathlib.Core.Path.{_≡_, refl, _∙_, sym, ap}
+use mathlib.Core.Path.{_≡_, refl, _∙_, sym, ap, subst}
 use mathlib.Core.Logic.{_⊎_, inl, inr}
 use mathlib.Core.Bool.{Bool, true, false, cond, _&&_, true≢false, false≢true}
 use mathlib.Core.List.{List, [], _∷_, _++_}
@@ -294,7 +294,7 @@ answers-unique (r ∷ rs) s u v (inr (un, a)) (inl (b, h)) = absurd (un (v .node
 answers-unique (r ∷ rs) s u v (inr (un, a)) (inr (un′, b)) = answers-unique rs (s .1) u v a b
 
 -- a refusal that is given, where none before it is, is the answer
-pub given-answered : (rs : List Refusal) (r : Refusal) (ss : List Refusal) → Singles (rs ++ (r ∷ ss)) → NotGiven rs → (k : ℕ) → r .given k → (v : Verdict)
+given-answered : (rs : List Refusal) (r : Refusal) (ss : List Refusal) → Singles (rs ++ (r ∷ ss)) → NotGiven rs → (k : ℕ) → r .given k → (v : Verdict)
     → Answers (rs ++ (r ∷ ss)) v → (v .number ≡ r .number) × (v .node ≡ k)
 unfolding Answers
 given-answered [] r ss s n k g v (inl (a, h)) = (a, s .0 (v .node) k h g)
@@ -311,9 +311,16 @@ answered-given (r ∷ rs) v (inr (un, a)) z =
     let f = answered-given rs v a z in
     record { before = r ∷ f .before; refusal = f .refusal; after = f .after; listed = ap (λ (ss : List Refusal). r ∷ ss) (f .listed); none = (un, f .none); number = f .number; given = f .given }
 
-pub numbered-in : (rs : List Refusal) (r : Refusal) (ss : List Refusal) → T (numbered (rs ++ (r ∷ ss))) → ¬ (r .number ≡ 0)
+numbered-in : (rs : List Refusal) (r : Refusal) (ss : List Refusal) → T (numbered (rs ++ (r ∷ ss))) → ¬ (r .number ≡ 0)
 numbered-in [] r ss t z = let l = is-and (is-lt 0 (r .number)) (is-test (numbered ss)) .to t .0 in omega arith
 numbered-in (q ∷ rs) r ss t z = numbered-in rs r ss (is-and (is-lt 0 (q .number)) (is-test (numbered (rs ++ (r ∷ ss)))) .to t .1) z
+
+-- all of it, of a list that is known to be the one
+pub given-refused : (rs : List Refusal) → Singles rs → T (numbered rs) → (before : List Refusal) (r : Refusal) (after : List Refusal) → rs ≡ before ++ (r ∷ after)
+    → NotGiven before → (k : ℕ) → r .given k → (v : Verdict) → Answers rs v → (v .number ≡ r .number) × (v .node ≡ k) × (¬ (v .number ≡ 0))
+given-refused rs s t before r after e n k g v a =
+    let (p, q) = given-answered before r after (subst Singles e s) n k g v (subst (λ (ss : List Refusal). Answers ss v) e a) in
+    (p, q, λ z. numbered-in before r after (subst (λ (ss : List Refusal). T (numbered ss)) e t) (sym p ∙ z))
 
 -- with none given the answer is an acceptance
 pub none-answered : (rs : List Refusal) → NotGiven rs → (v : Verdict) → Answers rs v → (v .number ≡ 0) × (v .node ≡ 0)

@@ -19,8 +19,8 @@ pub struct Rewriting {
     pub count: usize,
 }
 
-// A refusal: nothing is written.
-fn refused(number: u8, node: usize) -> Rewriting
+// A refusal, with count 0.
+pub fn refused(number: u8, node: usize) -> Rewriting
     ensures { λ r. ⌜ r ≡ refusing number node ⌝ }
 {
     Rewriting {
