@@ -2,11 +2,15 @@
 // A method takes its sets by value and hands a set back. Each contract says of every place whether the result has it.
 ghost use mathlib.Core.Path.{_≡_};
 ghost use mathlib.Core.Bool.{false, not, _||_, _&&_};
-ghost use Prim.Native.Nat.{ℕ, suc, _+_, _≤_, _<_};
+ghost use Prim.Native.Nat.{ℕ, suc, _+_, _-_, _≤_, _<_};
 ghost use lib.Dec.{eqb, leb, ltb};
 ghost use Rattle.tests.specs.Tests.{some};
 ghost use Rattle.positions.specs.Member.{has, Is, Lowest};
 
+// All places but 0, so that moved up by i it has the places after i.
+const ABOVE_ZERO: u64 = 18446744073709551614;
+
+#[repr(C)]
 pub struct PositionSet {
     pub bits: u64,
 }
@@ -120,7 +124,9 @@ impl PositionSet {
         requires { ⌜ i ≤ 63 ⌝ }
         ensures { λ r. ⌜ Is (r .bits) (λ k. has (self .bits) k && ltb i k) ⌝ }
     {
-        self.without(PositionSet::full(i))
+        Self {
+            bits: self.bits & (ABOVE_ZERO << i),
+        }
     }
 
     // Each place moved down by d; the places below d are dropped.
@@ -139,6 +145,15 @@ impl PositionSet {
     {
         Self {
             bits: self.bits >> 1,
+        }
+    }
+
+    // Each place moved up by one; place 63 is dropped.
+    pub fn up(self) -> Self
+        ensures { λ r. ⌜ Is (r .bits) (λ k. (leb 1 k && has (self .bits) (k - 1)) && ltb k 64) ⌝ }
+    {
+        Self {
+            bits: self.bits << 1,
         }
     }
 

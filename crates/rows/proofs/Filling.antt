@@ -20,14 +20,14 @@ use Rattle.positions.proofs.Laws.{ext, has-none}
 use Rattle.rows.specs.declared.cells.Suffixes.{Suffixes}
 use Rattle.rows.specs.Shares.{share}
 use Rattle.rows.specs.Bits.{booleanBit, Satisfying}
-use Rattle.rows.specs.Rows.{tab, threeWords, nodeWord, rowOf, rowsOf, laid, filled, Cleared}
+use Rattle.rows.specs.Rows.{tab, threeWords, nodeWord, rowOf, rowsOf, laid, filled, None, Stored}
 use Rattle.rows.proofs.Laying.{word-is, length-tab, getD-tab, laid-is}
 
 -- ---- a row of three words
 
 -- the first three words of share k are written, and the others made 0
 pub three-laid : (d out : List ℕ) (k u v w : ℕ) → share * k + share ≤ length d
-    → Cleared (set (set (set d (share * k) u) (share * k + 1) v) (share * k + 2) w) (share * k + 3) (share * k + share) out
+    → Stored None (set (set (set d (share * k) u) (share * k + 1) v) (share * k + 2) w) (share * k) 3 share out
     → out ≡ laid d k (tab (threeWords u v w) share)
 three-laid d out k u v w fits c = laid-is d out k (threeWords u v w) fits (c .long ∙ simp length-set) own others
   where
@@ -52,7 +52,7 @@ three-laid d out k u v w fits c = laid-is d out k (threeWords u v w) fits (c .lo
         c .stay (share * k + 2) (inl (omega arith)) ∙ getD-set-same two (share * k + 2) w 0 (simp length-set (omega arith))
     own (suc (suc (suc i))) h =
         let j = suc (suc (suc i)) in
-        c .zero (share * k + j) (omega arith) (omega arith)
+        c .there j (omega arith) (omega arith)
         ∙ sym (rw (ne-eqb j 0 (λ z. omega arith), ne-eqb j 1 (λ z. omega arith), ne-eqb j 2 (λ z. omega arith)))
 
     others : (j : ℕ) → (j < share * k) ⊎ (share * k + share ≤ j) → getD out j 0 ≡ getD d j 0

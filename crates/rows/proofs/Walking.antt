@@ -1,10 +1,15 @@
 -- The ends that are reached from a set's places, while the places are taken out one after the other. Assumes nothing.
 use mathlib.Core.Path.{_≡_, refl, sym, ap, ap₂, _∙_, subst}
 use mathlib.Core.Bool.{Bool, true, false, not, _||_, _&&_, and-true, and-false, or-false}
+use mathlib.Core.List.{List}
 use mathlib.Core.Logic.{_⊎_, inl, inr, ⊎-elim}
-use Prim.Native.Nat.{ℕ, suc, _≤_, _<_}
+use Prim.Native.Nat.{ℕ, suc, _+_, _≤_, _<_}
+use native.Mathlib.Nat.{eq-or-lt-of-le, le-of-suc-le-suc}
+use native.Mathlib.Numerals.{add-one}
 use native.Mathlib.Omega.{arith}
 use lib.Dec.{T, eqb, leb}
+use lib.ListN.{length, getD, set}
+use lib.Seq.{getD-set-same, getD-set-other}
 use borrow.Author.Tests.{le-leb, lt-leb}
 use Rattle.tests.specs.Tests.{Tells, some}
 use Rattle.tests.proofs.Telling.{passed, fails, decide, is-test, is-and, is-or, is-not, is-eq, is-map, is-as, is-some, same-test, some-same}
@@ -35,6 +40,19 @@ reached-where s M N n j f = some-same 0 (suc n) (λ m u v. guarded (s m) (f m (o
     guarded : (a : Bool) {b d : Bool} → (a ≡ true → b ≡ d) → (a && b) ≡ (a && d)
     guarded true h = h refl
     guarded false h = refl
+
+-- the ends by their words, one for each place up to n
+pub reached-by : (s : ℕ → Bool) (words : List ℕ) (M : ℕ → ℕ → Bool) (n r : ℕ) → Is r (reached s (λ m j. has (getD words m 0) j) n)
+    → ((m : ℕ) → m ≤ n → Is (getD words m 0) (M m)) → Is r (reached s M n)
+reached-by s words M n r h e j = h j ∙ reached-where s (λ m j. has (getD words m 0) j) M n j (λ m u t. e m u j)
+
+-- words stored one after the other from word 0 on, until all up to n are
+pub words-more : (P : ℕ → ℕ → Type 0) (d : List ℕ) (m v : ℕ) → m < length d → P m v → ((j : ℕ) → j < m → P j (getD d j 0)) → (j : ℕ) → j < m + 1 → P j (getD (set d m v) j 0)
+words-more P d m v l p h j u =
+    ⊎-elim
+    (λ e. subst (λ x. P x (getD (set d m v) x 0)) (sym e) (rw (getD-set-same d m v 0 l) p))
+    (λ (g : j < m). rw (getD-set-other d m j v 0 (λ z. omega arith)) (h j g))
+    (eq-or-lt-of-le (le-of-suc-le-suc (rw add-one at u)))
 
 -- whether two sets have a place in common, the one told by its places, the other by its word
 pub meets-as : (t : Bool) (x y z : ℕ) (f : ℕ → Bool) → t ≡ some (λ k. has x k && has y k) 0 64 → Is x f → y ≡ z → t ≡ some (λ k. f k && has z k) 0 64

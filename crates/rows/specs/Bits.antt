@@ -3,8 +3,8 @@
 use mathlib.Core.Path.{_≡_}
 use mathlib.Core.Bool.{Bool, true, false, not, _||_, _&&_}
 use mathlib.Core.List.{List}
-use Prim.Native.Nat.{ℕ, zero, suc, _+_, _-_, _<_}
-use lib.Dec.{eqb, leb, ltb}
+use Prim.Native.Nat.{ℕ, zero, suc, _+_, _-_, _<_, _≤_}
+use lib.Dec.{T, eqb, leb, ltb}
 use lib.ListN.{length, getD}
 use Rattle.tests.specs.Tests.{some, every}
 use Rattle.meaning.specs.Words.{Tail, none, tops, bots, other}
@@ -34,6 +34,14 @@ booleanBit rows xs (Or a b) k = bitIn rows a 0 k || bitIn rows b 0 k
 -- the ends j that M has from some place of s up to n
 unfoldable pub reached : (ℕ → Bool) → (ℕ → ℕ → Bool) → ℕ → ℕ → Bool
 reached s M n j = some (λ m. s m && M m j) 0 (suc n)
+
+-- M chains on the places of s up to n: what it has from a place that it has from p, it has from p
+pub record Chains (s : ℕ → Bool) (M : ℕ → ℕ → Bool) (n : ℕ) : Type 0 where
+  pub on : (p m j : ℕ) → p ≤ n → m ≤ n → T (s p) → T (s m) → T (M p m) → T (M m j) → T (M p j)
+
+-- the words of row a up to n never lead back
+abbrev pub Forward : List ℕ → ℕ → ℕ → Type 0
+Forward rows a n = (i j : ℕ) → i ≤ n → j < i → bitIn rows a i j ≡ false
 
 -- the matches of row a that are not empty, from i to j; the same by their last letter
 abbrev pub longer : List ℕ → ℕ → ℕ → ℕ → Bool

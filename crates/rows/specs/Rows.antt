@@ -1,13 +1,13 @@
 -- The rows of a table's nodes, and the workspace that holds them. Assumes nothing.
 use mathlib.Core.Path.{_≡_}
 use mathlib.Core.Logic.{_⊎_}
-use mathlib.Core.Bool.{Bool, cond}
+use mathlib.Core.Bool.{Bool, _&&_, cond}
 use mathlib.Core.List.{List, [], _∷_, _++_}
-use Prim.Native.Nat.{ℕ, zero, suc, _+_, _*_, _<_, _≤_}
+use Prim.Native.Nat.{ℕ, zero, suc, _+_, _*_, _^_, _<_, _≤_}
 use lib.Dec.{eqb, leb}
 use lib.ListN.{length, getD, take, drop}
 use Rattle.meaning.specs.Words.{none, tops, bots}
-use Rattle.positions.specs.Member.{collect}
+use Rattle.positions.specs.Member.{Is, collect}
 use Rattle.table.specs.Nodes.{nodeAt}
 use Rattle.table.specs.declared.nodes.Node.{Node}
 use Rattle.table.specs.declared.nodes.Node.the-variants.{Boolean, Sequence, Property}
@@ -15,7 +15,7 @@ use Rattle.table.specs.declared.nodes.BooleanOp.{BooleanOp}
 use Rattle.table.specs.declared.nodes.SequenceOp.{SequenceOp}
 use Rattle.table.specs.declared.nodes.PropertyOp.{PropertyOp}
 use Rattle.rows.specs.Shares.{share, topWord, longest}
-use Rattle.rows.specs.Bits.{booleanBit, sequenceBit, topBit, propertyBit, readyBoolean, readySequence, readyProperty}
+use Rattle.rows.specs.Bits.{booleanBit, sequenceBit, goesOn, topBit, propertyBit, readyBoolean, readySequence, readyProperty}
 
 -- the first n values of f
 unfoldable pub tab : (ℕ → ℕ) → ℕ → List ℕ
@@ -58,11 +58,23 @@ rowsOf s xs (suc k) = rowsOf s xs k ++ rowOf (rowsOf s xs k) xs (nodeAt s k)
 unfoldable pub laid : List ℕ → ℕ → List ℕ → List ℕ
 laid d k r = take (share * k) d ++ r ++ drop (share * k + share) d
 
--- out is d with the words from `from` to `to` - 1 made 0
-pub record Cleared (d : List ℕ) (from to : ℕ) (out : List ℕ) : Type 0 where
+-- out is d with the words `from` to `to` - 1 of the share at `at` made anew, so that P holds of each and its number; all others stay
+pub record Stored (P : ℕ → ℕ → Type 0) (d : List ℕ) (at from to : ℕ) (out : List ℕ) : Type 0 where
   pub long : length out ≡ length d
-  pub zero : (j : ℕ) → from ≤ j → j < to → getD out j 0 ≡ 0
-  pub stay : (j : ℕ) → (j < from) ⊎ (to ≤ j) → getD out j 0 ≡ getD d j 0
+  pub there : (m : ℕ) → from ≤ m → m < to → P m (getD out (at + m) 0)
+  pub stay : (j : ℕ) → (j < at + from) ⊎ (at + to ≤ j) → getD out j 0 ≡ getD d j 0
+
+-- what `Stored` says of a word: it has no place; it has the ends of a sequence's matches
+abbrev pub None : ℕ → ℕ → Type 0
+None m x = x ≡ 0
+
+abbrev pub Ends : List ℕ → ℕ → SequenceOp → ℕ → ℕ → Type 0
+Ends rows n op m x = (x < 2 ^ 64) × Is x (sequenceBit rows n op m)
+
+-- a sequence's words i to n are stored in share k, and tops has those of the starts i to n from which the match goes on
+pub record Made (d : List ℕ) (k n : ℕ) (op : SequenceOp) (i tops : ℕ) (out : List ℕ) : Type 0 where
+  pub words : Stored (Ends (take (share * k) d) n op) d (share * k) i (n + 1) out
+  pub decided : Is tops (λ j. (leb i j && leb j n) && goesOn (take (share * k) d) op (sequenceBit (take (share * k) d) n op j) j)
 
 -- the workspace d with the rows of the nodes below k laid in
 unfoldable pub filled : List ℕ → List ℕ → List ℕ → ℕ → List ℕ

@@ -1,11 +1,12 @@
 // Words of rows, read; and how a workspace is shared out.
 use positions::PositionSet;
 ghost use mathlib.Core.Path.{_≡_};
+ghost use mathlib.Core.Bool.{true};
 ghost use Prim.Native.Nat.{_≤_, _<_};
 ghost use lib.ListN.{length};
 ghost use Rattle.positions.specs.Member.{Is};
 ghost use Rattle.rows.specs.Shares.{share, longest, wordIn, Row};
-ghost use Rattle.rows.specs.Bits.{longer, lastLetter, starts};
+ghost use Rattle.rows.specs.Bits.{longer, lastLetter, starts, Forward};
 
 // The words that a node owns.
 pub const SHARE: usize = 65;
@@ -60,4 +61,19 @@ pub fn starts_of(rows: &[u64], a: usize, n: usize) -> PositionSet
         i += 1;
     }
     out
+}
+
+// Whether no word of row a up to n has a place below its start.
+pub fn leads_forward(rows: &[u64], a: usize, n: usize) -> bool
+    requires { ⌜ Row (length (now rows)) a × (n ≤ longest) ⌝ }
+    ensures { λ r. ⌜ (r ≡ true → Forward (now (rows .entry)) a n) ⌝ }
+{
+    let mut back = PositionSet::empty();
+    let mut i: usize = 0;
+    while i <= n {
+        let word = word_at(rows, a, i);
+        back = back.joined(word.without(word.from(i)));
+        i += 1;
+    }
+    back.is_empty()
 }

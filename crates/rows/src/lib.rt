@@ -4,6 +4,7 @@ pub mod cells;
 mod properties;
 mod sequences;
 mod untils;
+mod words;
 
 use booleans::boolean_set;
 use cells::SHARE;
@@ -11,30 +12,19 @@ use cells::Suffixes;
 use cells::TOP_WORD;
 use positions::PositionSet;
 use properties::suffixes_of;
-use sequences::found_from;
 use sequences::open_starts;
 use table::nodes::Node;
 use table::nodes::SequenceOp;
 use table::nodes::decode;
 use table::nodes::node_at;
+use words::clear;
+use words::put_words;
 ghost use mathlib.Core.Path.{_≡_};
 ghost use Prim.Native.Nat.{_*_, _≤_};
 ghost use lib.ListN.{length, take};
 ghost use Rattle.rows.specs.Shares.{share, longest, Row};
 ghost use Rattle.rows.specs.Bits.{readySequence};
-ghost use Rattle.rows.specs.Rows.{tab, threeWords, sequenceWord, rowOf, laid, filled, Ready, Fits, Cleared};
-
-// Words `from` to `to` - 1, made 0.
-fn clear(ws: &mut [u64], from: usize, to: usize)
-    requires { ⌜ (from ≤ to) × (to ≤ length (now ws)) ⌝ }
-    ensures { λ _. ⌜ Cleared (now (ws .entry)) from to (now (ws .exit)) ⌝ }
-{
-    let mut j = from;
-    while j < to {
-        ws[j] = 0;
-        j += 1;
-    }
-}
+ghost use Rattle.rows.specs.Rows.{tab, threeWords, sequenceWord, rowOf, laid, filled, Ready, Fits};
 
 // A row of three words, the others 0.
 fn put_three(ws: &mut [u64], k: usize, words: Suffixes)
@@ -45,27 +35,19 @@ fn put_three(ws: &mut [u64], k: usize, words: Suffixes)
     ws[at] = words.neutral.bits;
     ws[at + 1] = words.weak.bits;
     ws[at + 2] = words.strong.bits;
-    clear(ws, at + 3, at + SHARE);
+    clear(ws, at, 3, SHARE);
 }
 
-// A sequence's row, from the last start down, so that a repetition finds its own words above.
+// A sequence's row: its words up to n, then word 64, and 0 between.
 fn put_sequence(ws: &mut [u64], k: usize, op: SequenceOp, n: usize)
     requires { ⌜ Row (length (now ws)) k × readySequence (share * k) op × (n ≤ longest) ⌝ }
     ensures { λ _. ⌜ now (ws .exit) ≡ laid (now (ws .entry)) k (tab (sequenceWord (take (share * k) (now (ws .entry))) n op) share) ⌝ }
 {
     let at = SHARE * k;
-    let mut tops = PositionSet::empty();
-    let mut i = n + 1;
-    while 0 < i {
-        i -= 1;
-        let all = &ws[..];
-        let found = found_from(&all[..at], &all[at..], n, op, i);
-        tops = tops.with_if(i, found.on);
-        ws[at + i] = found.ends.bits;
-    }
+    let tops = put_words(ws, k, op, n);
     let open = open_starts(&ws[..at], n, op);
     ws[at + TOP_WORD] = tops.joined(open.cut(n)).bits;
-    clear(ws, at + n + 1, at + TOP_WORD);
+    clear(ws, at, n + 1, TOP_WORD);
 }
 
 // Row k, from the rows below it.

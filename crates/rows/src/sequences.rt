@@ -6,11 +6,13 @@ use crate::cells::longer_ends;
 use crate::cells::word_at;
 use positions::PositionSet;
 use table::nodes::SequenceOp;
-ghost use Prim.Native.Nat.{ℕ, _+_, _≤_, _<_};
+ghost use mathlib.Core.Path.{_≡_};
+ghost use mathlib.Core.Bool.{true};
+ghost use Prim.Native.Nat.{ℕ, _≤_, _<_};
 ghost use lib.ListN.{length, getD};
 ghost use Rattle.positions.specs.Member.{has, Is};
 ghost use Rattle.rows.specs.Shares.{share, longest, Row};
-ghost use Rattle.rows.specs.Bits.{reached, longer, sequenceBit, startsOpen, Finds, readySequence};
+ghost use Rattle.rows.specs.Bits.{reached, Chains, Forward, longer, sequenceBit, startsOpen, Finds, readySequence};
 
 // What is found from one start: the ends of the matches, and whether one goes on into the letters ⊤ after a part inside the record.
 pub struct Found {
@@ -18,123 +20,90 @@ pub struct Found {
     pub on: bool,
 }
 
-// The ends that are reached from the places of s up to n: those of place j are word `at` + j.
-fn ends_from(words: &[u64], at: usize, s: PositionSet, n: usize) -> PositionSet
-    requires { ⌜ (at + share ≤ length (now words)) × (n ≤ longest) ⌝ }
-    ensures { λ r. ⌜ Is (r .bits) (reached (has (s .bits)) (λ m j. has (getD (now (words .entry)) (at + m) 0) j) n) ⌝ }
+// The ends that are reached from the places of s up to n: those of place m are word m.
+fn ends_from(words: &[u64], s: PositionSet, n: usize) -> PositionSet
+    requires { ⌜ (n < length (now words)) × (n ≤ longest) ⌝ }
+    ensures { λ r. ⌜ Is (r .bits) (reached (has (s .bits)) (λ m j. has (getD (now (words .entry)) m 0) j) n) ⌝ }
 {
     let mut out = PositionSet::empty();
     let mut left = s.cut(n);
     while left.bits != 0 {
         let m = left.lowest();
-        let ends = PositionSet {
-            bits: words[at + m],
-        };
+        let ends = PositionSet { bits: words[m] };
         out = out.joined(ends);
         left = left.rest();
     }
     out
 }
 
-// The same of row b, by its matches that are not empty.
-fn ends_after(rows: &[u64], b: usize, s: PositionSet, n: usize) -> PositionSet
-    requires { ⌜ Row (length (now rows)) b × (n ≤ longest) ⌝ }
-    ensures { λ r. ⌜ Is (r .bits) (reached (has (s .bits)) (longer (now (rows .entry)) b) n) ⌝ }
+// The ends of the matches of row b that are not empty, from each start up to n: taken once for all the walks along them.
+pub fn longer_words(rows: &[u64], b: usize, n: usize, out: &mut [u64])
+    requires { ⌜ Row (length (now rows)) b × (n ≤ longest) × (n < length (now out)) ⌝ }
+    ensures { λ _. ⌜ ((m : ℕ) → m ≤ n → Is (getD (now (out .exit)) m 0) (longer (now (rows .entry)) b m)) ⌝ }
+{
+    let mut m: usize = 0;
+    while m <= n {
+        out[m] = longer_ends(rows, b, m).bits;
+        m += 1;
+    }
+}
+
+// The ends of the second match, from each end of the first.
+pub fn then_from(rows: &[u64], n: usize, a: usize, b: usize, i: usize) -> Found
+    requires { ⌜ Row (length (now rows)) a × Row (length (now rows)) b × (n ≤ longest) × (i ≤ n) ⌝ }
+    ensures { λ r. ⌜ Finds (now (rows .entry)) n (SequenceOp.Then a b) i r ⌝ }
+{
+    let first = word_at(rows, a, i);
+    let at = SHARE * b;
+    Found {
+        ends: ends_from(&rows[at..], first, n),
+        on: first.meets(word_at(rows, b, TOP_WORD)),
+    }
+}
+
+// The ends of the second match, `second`, from each last letter of the first.
+pub fn fused_from(rows: &[u64], second: &[u64], n: usize, a: usize, b: usize, i: usize) -> Found
+    requires { ⌜ Row (length (now rows)) a × Row (length (now rows)) b × (n ≤ longest) × (i ≤ n) × (n < length (now second)) ⌝ }
+    requires { ⌜ ((m : ℕ) → m ≤ n → Is (getD (now second) m 0) (longer (now rows) b m)) ⌝ }
+    ensures { λ r. ⌜ Finds (now (rows .entry)) n (SequenceOp.Fused a b) i r ⌝ }
+{
+    let shared = last_letters(rows, a, i);
+    Found {
+        ends: ends_from(second, shared, n),
+        on: shared.meets(word_at(rows, b, TOP_WORD)),
+    }
+}
+
+// The same along words that chain, where `chain` says so: what is left adds nothing once all of it is reached.
+fn ends_along(words: &[u64], s: PositionSet, n: usize, chain: bool) -> PositionSet
+    requires { ⌜ (n < length (now words)) × (n ≤ longest) ⌝ }
+    requires { ⌜ (chain ≡ true → Chains (has (s .bits)) (λ m j. has (getD (now words) m 0) j) n) ⌝ }
+    ensures { λ r. ⌜ Is (r .bits) (reached (has (s .bits)) (λ m j. has (getD (now (words .entry)) m 0) j) n) ⌝ }
 {
     let mut out = PositionSet::empty();
     let mut left = s.cut(n);
-    while left.bits != 0 {
-        out = out.joined(longer_ends(rows, b, left.lowest()));
+    while !left.within(out.only_if(chain)) {
+        let m = left.lowest();
+        let ends = PositionSet { bits: words[m] };
+        out = out.joined(ends);
         left = left.rest();
     }
     out
 }
 
-// A letter's match from i ends after i, where sample i satisfies b.
-fn letter_from(rows: &[u64], n: usize, b: usize, i: usize) -> Found
-    requires { ⌜ Row (length (now rows)) b × (n ≤ longest) × (i ≤ n) ⌝ }
-    ensures { λ r. ⌜ Finds (now (rows .entry)) n (SequenceOp.Letter b) i r ⌝ }
-{
-    if i == n {
-        return Found {
-            ends: PositionSet::empty(),
-            on: false,
-        };
-    }
-    Found {
-        ends: PositionSet::one(i + 1).only_if(word_at(rows, b, 0).has(i)),
-        on: false,
-    }
-}
-
-// The ends of the second match, from each end of the first.
-fn then_from(rows: &[u64], n: usize, a: usize, b: usize, i: usize) -> Found
-    requires { ⌜ Row (length (now rows)) a × Row (length (now rows)) b × (n ≤ longest) × (i ≤ n) ⌝ }
-    ensures { λ r. ⌜ Finds (now (rows .entry)) n (SequenceOp.Then a b) i r ⌝ }
-{
-    let first = word_at(rows, a, i);
-    Found {
-        ends: ends_from(rows, SHARE * b, first, n),
-        on: first.meets(word_at(rows, b, TOP_WORD)),
-    }
-}
-
-// The ends of the second match, from each last letter of the first.
-fn fused_from(rows: &[u64], n: usize, a: usize, b: usize, i: usize) -> Found
-    requires { ⌜ Row (length (now rows)) a × Row (length (now rows)) b × (n ≤ longest) × (i ≤ n) ⌝ }
-    ensures { λ r. ⌜ Finds (now (rows .entry)) n (SequenceOp.Fused a b) i r ⌝ }
-{
-    let shared = last_letters(rows, a, i);
-    Found {
-        ends: ends_after(rows, b, shared, n),
-        on: shared.meets(word_at(rows, b, TOP_WORD)),
-    }
-}
-
-fn either_from(rows: &[u64], n: usize, a: usize, b: usize, i: usize) -> Found
-    requires { ⌜ Row (length (now rows)) a × Row (length (now rows)) b × (n ≤ longest) × (i ≤ n) ⌝ }
-    ensures { λ r. ⌜ Finds (now (rows .entry)) n (SequenceOp.Either a b) i r ⌝ }
-{
-    Found {
-        ends: word_at(rows, a, i).joined(word_at(rows, b, i)),
-        on: false,
-    }
-}
-
-// One match from i, or one that is not empty and then those from its end, which `own`, the node's words above i, has already.
-fn repeat_from(rows: &[u64], own: &[u64], n: usize, a: usize, i: usize) -> Found
+// One match from i, or one that is not empty and then those from its end, which `own`, the node's words above i, has already; they chain
+// where `forward`, as no match of row a then leads back.
+pub fn repeat_from(rows: &[u64], own: &[u64], n: usize, a: usize, i: usize, forward: bool) -> Found
     requires { ⌜ Row (length (now rows)) a × (n ≤ longest) × (i ≤ n) × (share ≤ length (now own)) ⌝ }
     requires { ⌜ ((m : ℕ) → i < m → m ≤ n → Is (getD (now own) m 0) (sequenceBit (now rows) n (SequenceOp.Repeat a) m)) ⌝ }
+    requires { ⌜ (forward ≡ true → Forward (now rows) a n) ⌝ }
     ensures { λ r. ⌜ Finds (now (rows .entry)) n (SequenceOp.Repeat a) i r ⌝ }
 {
     let first = word_at(rows, a, i);
-    let ends = ends_from(own, 0, first.after(i), n).joined(first);
+    let ends = ends_along(own, first.after(i), n, forward).joined(first);
     Found {
         ends,
         on: ends.meets(word_at(rows, a, TOP_WORD)),
-    }
-}
-
-// What is found from i; `own` has the node's words above i. A rewritten table has no clock node, so there is nothing to find of one.
-pub fn found_from(rows: &[u64], own: &[u64], n: usize, op: SequenceOp, i: usize) -> Found
-    requires { ⌜ readySequence (length (now rows)) op × (n ≤ longest) × (i ≤ n) × (share ≤ length (now own)) ⌝ }
-    requires { ⌜ ((m : ℕ) → i < m → m ≤ n → Is (getD (now own) m 0) (sequenceBit (now rows) n op m)) ⌝ }
-    ensures { λ r. ⌜ Finds (now (rows .entry)) n op i r ⌝ }
-{
-    match op {
-        SequenceOp::Letter(b) => letter_from(rows, n, b, i),
-        SequenceOp::Then(a, b) => then_from(rows, n, a, b, i),
-        SequenceOp::Fused(a, b) => fused_from(rows, n, a, b, i),
-        SequenceOp::Either(a, b) => either_from(rows, n, a, b, i),
-        SequenceOp::Empty(_) => Found {
-            ends: PositionSet::one(i),
-            on: false,
-        },
-        SequenceOp::Repeat(a) => repeat_from(rows, own, n, a, i),
-        SequenceOp::Clocked(_, _) => Found {
-            ends: PositionSet::empty(),
-            on: false,
-        },
     }
 }
 

@@ -34,12 +34,6 @@ mul-ws-3 c = search needs
 slice-write-ws-3 : tie.Need-slice-write-ws-3
 slice-write-ws-3 c = simp length-set (omega arith)
 
-add-clear : tie.Need-add-clear
-add-clear c = search needs
-
-add-clear-2 : tie.Need-add-clear-2
-add-clear-2 c = search needs
-
 clear-requires : tie.Need-clear-requires
 clear-requires c κs = search needs
 
@@ -62,8 +56,6 @@ put-three-spec =
     add-ws-2
     mul-ws-3
     slice-write-ws-3
-    add-clear
-    add-clear-2
     clear-requires
     same-length
     returns)

@@ -1,21 +1,20 @@
 -- `rows::sequences::ends_from` meets its contract: the ends from the places that are taken out are joined, and what is left falls as a number.
 -- Assumes nothing.
 use mathlib.Core.Path.{refl}
-use Prim.Native.Nat.{_+_, _≤_}
+use Prim.Native.Nat.{_≤_}
 use native.Mathlib.Omega.{arith}
 use lib.ListN.{getD}
 use borrow.Author.Needs.{needs}
 use Rattle.positions.specs.Member.{has}
-use Rattle.rows.specs.Shares.{longest}
 use Rattle.rows.proofs.Walking.{Walked, walk-start, walk-at, walk-turn, walk-end}
 use Rattle.rows.proofs.sequences.ends_from.Statement.{statement}
 use Rattle.rows.proofs.sequences.ends_from.Tie as tie
 
 abbrev Inv-loop : tie.InvT-loop
-Inv-loop words at n out₀ left₀ out left = Walked (has (left₀ .bits)) (λ m j. has (getD words (at + m) 0) j) n (out .bits) (left .bits)
+Inv-loop words n out₀ left₀ out left = Walked (has (left₀ .bits)) (λ m j. has (getD words m 0) j) n (out .bits) (left .bits)
 
 abbrev μ-loop : tie.MeasureT-loop
-μ-loop words at n out₀ left₀ out left = left .bits
+μ-loop words n out₀ left₀ out left = left .bits
 
 empty-requires : tie.Need-empty-requires Inv-loop μ-loop
 empty-requires c κs = search needs
@@ -30,19 +29,14 @@ lowest-requires : tie.Need-lowest-requires Inv-loop μ-loop
 lowest-requires c κs = search needs
 
 -- the lowest place of what is left is up to n
-inside : (c : tie.After-lowest Inv-loop μ-loop) → c .lowest .result ≤ longest
-inside c =
-    let at = walk-at _ _ _ _ _ _ (omega arith) (c .before .if1 .taken) (c .lowest .ensures) (c .before .before .before .loop .inv) in
-    omega arith
+inside : (c : tie.After-lowest Inv-loop μ-loop) → c .lowest .result ≤ c .before .before .before .before .before .before .before .args .n
+inside c = walk-at _ _ _ _ _ _ (omega arith) (c .before .if1 .taken) (c .lowest .ensures) (c .before .before .before .loop .inv) .0
 
-add-t10 : tie.Need-add-t10 Inv-loop μ-loop
-add-t10 c = omega (arith, inside c)
+mul-t9 : tie.Need-mul-t9 Inv-loop μ-loop
+mul-t9 c = omega (arith, inside c)
 
-mul-t11 : tie.Need-mul-t11 Inv-loop μ-loop
-mul-t11 c = omega (arith, inside c)
-
-shared-slice-read-t13 : tie.Need-shared-slice-read-t13 Inv-loop μ-loop
-shared-slice-read-t13 c = omega (arith, inside (c .before))
+shared-slice-read-t11 : tie.Need-shared-slice-read-t11 Inv-loop μ-loop
+shared-slice-read-t11 c = omega (arith, inside (c .before))
 
 joined-requires : tie.Need-joined-requires Inv-loop μ-loop
 joined-requires c κs = search needs
@@ -72,9 +66,8 @@ ends-from-spec =
     cut-requires
     loop-holds
     lowest-requires
-    add-t10
-    mul-t11
-    shared-slice-read-t13
+    mul-t9
+    shared-slice-read-t11
     joined-requires
     rest-requires
     loop-less

@@ -1,0 +1,149 @@
+// A sequence's words 0 to n, in the workspace: the kind is chosen once, and each kind has its loop. Each answers the starts from which the match goes on.
+use crate::booleans::all_samples;
+use crate::cells::SHARE;
+use crate::cells::leads_forward;
+use crate::cells::word_at;
+use crate::sequences::fused_from;
+use crate::sequences::longer_words;
+use crate::sequences::repeat_from;
+use crate::sequences::then_from;
+use positions::PositionSet;
+use table::nodes::SequenceOp;
+ghost use Prim.Native.Nat.{_+_, _*_, _≤_};
+ghost use lib.ListN.{length};
+ghost use Rattle.rows.specs.Shares.{share, longest, Row};
+ghost use Rattle.rows.specs.Bits.{readySequence};
+ghost use Rattle.rows.specs.Rows.{None, Stored, Made};
+
+// Words `from` to `to` - 1 of the share that begins at word `at`, made 0.
+pub fn clear(ws: &mut [u64], at: usize, from: usize, to: usize)
+    requires { ⌜ (from ≤ to) × (at + to ≤ length (now ws)) ⌝ }
+    ensures { λ _. ⌜ Stored None (now (ws .entry)) at from to (now (ws .exit)) ⌝ }
+{
+    let mut m = from;
+    while m < to {
+        ws[at + m] = 0;
+        m += 1;
+    }
+}
+
+// A letter's match from i ends after i, where sample i satisfies b.
+fn put_letter(ws: &mut [u64], k: usize, b: usize, n: usize) -> PositionSet
+    requires { ⌜ Row (length (now ws)) k × Row (share * k) b × (n ≤ longest) ⌝ }
+    ensures { λ r. ⌜ Made (now (ws .entry)) k n (SequenceOp.Letter b) 0 (r .bits) (now (ws .exit)) ⌝ }
+{
+    let at = SHARE * k;
+    let ends = word_at(&ws[..at], b, 0).common(all_samples(n)).up();
+    let mut i: usize = 0;
+    while i <= n {
+        ws[at + i] = ends.common(PositionSet::one(i).up()).bits;
+        i += 1;
+    }
+    PositionSet::empty()
+}
+
+fn put_either(ws: &mut [u64], k: usize, a: usize, b: usize, n: usize) -> PositionSet
+    requires { ⌜ Row (length (now ws)) k × Row (share * k) a × Row (share * k) b × (n ≤ longest) ⌝ }
+    ensures { λ r. ⌜ Made (now (ws .entry)) k n (SequenceOp.Either a b) 0 (r .bits) (now (ws .exit)) ⌝ }
+{
+    let at = SHARE * k;
+    let mut i: usize = 0;
+    while i <= n {
+        let rows = &ws[..at];
+        let ends = word_at(rows, a, i).joined(word_at(rows, b, i));
+        ws[at + i] = ends.bits;
+        i += 1;
+    }
+    PositionSet::empty()
+}
+
+// The empty match of row a's node, and no other.
+fn put_empty(ws: &mut [u64], k: usize, a: usize, n: usize) -> PositionSet
+    requires { ⌜ Row (length (now ws)) k × (n ≤ longest) ⌝ }
+    ensures { λ r. ⌜ Made (now (ws .entry)) k n (SequenceOp.Empty a) 0 (r .bits) (now (ws .exit)) ⌝ }
+{
+    let at = SHARE * k;
+    let mut i: usize = 0;
+    while i <= n {
+        ws[at + i] = PositionSet::one(i).bits;
+        i += 1;
+    }
+    PositionSet::empty()
+}
+
+fn put_then(ws: &mut [u64], k: usize, a: usize, b: usize, n: usize) -> PositionSet
+    requires { ⌜ Row (length (now ws)) k × Row (share * k) a × Row (share * k) b × (n ≤ longest) ⌝ }
+    ensures { λ r. ⌜ Made (now (ws .entry)) k n (SequenceOp.Then a b) 0 (r .bits) (now (ws .exit)) ⌝ }
+{
+    let at = SHARE * k;
+    let mut tops = PositionSet::empty();
+    let mut i = n + 1;
+    while 0 < i {
+        i -= 1;
+        let found = then_from(&ws[..at], n, a, b, i);
+        tops = tops.with_if(i, found.on);
+        ws[at + i] = found.ends.bits;
+    }
+    tops
+}
+
+fn put_fused(ws: &mut [u64], k: usize, a: usize, b: usize, n: usize) -> PositionSet
+    requires { ⌜ Row (length (now ws)) k × Row (share * k) a × Row (share * k) b × (n ≤ longest) ⌝ }
+    ensures { λ r. ⌜ Made (now (ws .entry)) k n (SequenceOp.Fused a b) 0 (r .bits) (now (ws .exit)) ⌝ }
+{
+    let at = SHARE * k;
+    let mut second = [0; 64];
+    longer_words(&ws[..at], b, n, &mut second);
+    let mut tops = PositionSet::empty();
+    let mut i = n + 1;
+    while 0 < i {
+        i -= 1;
+        let found = fused_from(&ws[..at], &second, n, a, b, i);
+        tops = tops.with_if(i, found.on);
+        ws[at + i] = found.ends.bits;
+    }
+    tops
+}
+
+// From the last start down, so that a repetition finds its own words above.
+fn put_repeat(ws: &mut [u64], k: usize, a: usize, n: usize) -> PositionSet
+    requires { ⌜ Row (length (now ws)) k × Row (share * k) a × (n ≤ longest) ⌝ }
+    ensures { λ r. ⌜ Made (now (ws .entry)) k n (SequenceOp.Repeat a) 0 (r .bits) (now (ws .exit)) ⌝ }
+{
+    let at = SHARE * k;
+    let forward = leads_forward(&ws[..at], a, n);
+    let mut tops = PositionSet::empty();
+    let mut i = n + 1;
+    while 0 < i {
+        i -= 1;
+        let all = &ws[..];
+        let found = repeat_from(&all[..at], &all[at..], n, a, i, forward);
+        tops = tops.with_if(i, found.on);
+        ws[at + i] = found.ends.bits;
+    }
+    tops
+}
+
+// A rewritten table has no clock node, so there is nothing to find of one.
+fn put_none(ws: &mut [u64], k: usize, c: usize, a: usize, n: usize) -> PositionSet
+    requires { ⌜ Row (length (now ws)) k × (n ≤ longest) ⌝ }
+    ensures { λ r. ⌜ Made (now (ws .entry)) k n (SequenceOp.Clocked c a) 0 (r .bits) (now (ws .exit)) ⌝ }
+{
+    clear(ws, SHARE * k, 0, n + 1);
+    PositionSet::empty()
+}
+
+pub fn put_words(ws: &mut [u64], k: usize, op: SequenceOp, n: usize) -> PositionSet
+    requires { ⌜ Row (length (now ws)) k × readySequence (share * k) op × (n ≤ longest) ⌝ }
+    ensures { λ r. ⌜ Made (now (ws .entry)) k n op 0 (r .bits) (now (ws .exit)) ⌝ }
+{
+    match op {
+        SequenceOp::Letter(b) => put_letter(ws, k, b, n),
+        SequenceOp::Then(a, b) => put_then(ws, k, a, b, n),
+        SequenceOp::Fused(a, b) => put_fused(ws, k, a, b, n),
+        SequenceOp::Either(a, b) => put_either(ws, k, a, b, n),
+        SequenceOp::Empty(a) => put_empty(ws, k, a, n),
+        SequenceOp::Repeat(a) => put_repeat(ws, k, a, n),
+        SequenceOp::Clocked(c, a) => put_none(ws, k, c, a, n),
+    }
+}
