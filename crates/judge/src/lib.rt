@@ -16,6 +16,7 @@ use table::operators::SEQUENCE;
 ghost use Rattle.judge.specs.Judges.{Judges, EndsMatches};
 
 // What the judge answers.
+#[repr(C)]
 pub struct Judgement {
     pub verdict: Verdict,
     pub level: Level,
@@ -23,6 +24,7 @@ pub struct Judgement {
 }
 
 // What match ends answers: the ends of the matches from the start, and whether the samples from there on, followed by one or more ⊤, match.
+#[repr(C)]
 pub struct MatchEnds {
     pub verdict: Verdict,
     pub mask: PositionSet,

@@ -51,7 +51,7 @@ module _ (s : List ℕ) where
 
   -- ---- words
 
-  length-samples : (n : ℕ) → length (samples s n) ≡ n
+  pub length-samples : (n : ℕ) → length (samples s n) ≡ n
   unfolding samples
   length-samples zero = refl
   length-samples (suc n) = let e = length-samples n in simp length-append (omega arith)

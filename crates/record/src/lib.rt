@@ -10,6 +10,7 @@ use refusal::Verdict;
 use refusal::wide;
 
 // What reading answers: the verdict, and how many samples it wrote.
+#[repr(C)]
 pub struct Reading {
     pub verdict: Verdict,
     pub count: usize,

@@ -8,6 +8,7 @@ ghost use Rattle.refusal.specs.Heading.{headingRefusals};
 ghost use Rattle.refusal.specs.Computed.{isMarked, isVersionOne};
 
 // The number of the refusal and its node; an acceptance has number and node 0.
+#[repr(C)]
 pub struct Verdict {
     pub number: u8,
     pub node: usize,

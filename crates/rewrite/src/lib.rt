@@ -14,6 +14,7 @@ ghost use Rattle.rewrite.specs.Rewrites.{Rewrites};
 ghost use Rattle.rewrite.specs.Computed.{refusing};
 
 // What rewriting answers: the verdict, and m, the count of new nodes.
+#[repr(C)]
 pub struct Rewriting {
     pub verdict: Verdict,
     pub count: usize,
