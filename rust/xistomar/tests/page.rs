@@ -1,0 +1,263 @@
+//! The examples of the page, each refusal once, and what each call leaves in what it is lent.
+use xistomar::{Judge, Level, Refusal};
+
+/// A table of these nodes: operator, x, y.
+fn table(nodes: &[[u8; 3]]) -> Vec<u8> {
+    let mut bytes = vec![b'S', b'V', b'T', 1, 0, nodes.len() as u8];
+    for [operator, x, y] in nodes {
+        bytes.extend([*operator, *x, *y, 0]);
+    }
+    bytes
+}
+
+/// A record of these samples.
+fn record(samples: &[u64]) -> Vec<u8> {
+    let mut bytes = vec![b'S', b'V', b'W', 1, 0, samples.len() as u8];
+    for sample in samples {
+        bytes.extend(sample.to_le_bytes());
+    }
+    bytes
+}
+
+/// Signals a and b and a letter for each: nodes 0 to 3. More nodes follow.
+fn letters(more: &[[u8; 3]]) -> Vec<u8> {
+    let first = [[1, 0, 0], [1, 1, 0], [16, 0, 0], [16, 1, 0]];
+    table(&[&first, more].concat())
+}
+
+/// a ##1 b under strong (32) or weak (33).
+fn a_then_b(operator: u8) -> Vec<u8> {
+    letters(&[[17, 2, 3], [operator, 4, 0]])
+}
+
+/// One letter a, and an operator over it.
+fn over_a(operators: &[[u8; 3]]) -> Vec<u8> {
+    table(&[&[[1, 0, 0], [16, 0, 0]], operators].concat())
+}
+
+/// strong(a), accepted by everything but match ends.
+fn strong_a() -> Vec<u8> {
+    over_a(&[[32, 1, 0]])
+}
+
+/// a[*1:$], accepted by everything but the judge.
+fn repeated_a() -> Vec<u8> {
+    over_a(&[[21, 1, 0]])
+}
+
+/// @(a) over this many letters a joined by `##1`: each letter is rewritten to 9 nodes.
+fn clocked_letters(count: u8) -> Vec<u8> {
+    let mut nodes = vec![[1, 0, 0], [16, 0, 0]];
+    for last in (1..).step_by(2).take(usize::from(count) - 1) {
+        nodes.extend([[16, 0, 0], [17, last, last + 1]]);
+    }
+    let last = nodes.len() as u8 - 1;
+    nodes.extend([[32, last, 0], [40, 0, last + 1]]);
+    table(&nodes)
+}
+
+fn level(table: &[u8], samples: &[u64]) -> Level {
+    Judge::new().judge(table, samples).unwrap().level
+}
+
+/// The number and node of a refusal.
+fn refused<T: std::fmt::Debug>(answer: Result<T, Refusal>) -> (u8, usize) {
+    let refusal = answer.unwrap_err();
+    (refusal.number(), refusal.node())
+}
+
+#[test]
+fn p1_to_p4_sequences() {
+    assert_eq!(level(&a_then_b(32), &[1]), Level::Weak);
+    assert_eq!(level(&a_then_b(33), &[1]), Level::Neutral);
+    assert_eq!(level(&a_then_b(32), &[1, 2]), Level::Strong);
+    assert_eq!(level(&a_then_b(33), &[1, 1]), Level::Broken);
+}
+
+#[test]
+fn p5_to_p9_properties() {
+    let implies = letters(&[[32, 3, 0], [38, 4, 0], [37, 2, 5]]);
+    assert_eq!(level(&implies, &[1]), Level::Weak);
+    let until = letters(&[[32, 2, 0], [32, 3, 0], [39, 4, 5]]);
+    assert_eq!(level(&until, &[1, 1]), Level::Neutral);
+    assert_eq!(level(&until, &[1, 0]), Level::Broken);
+    assert_eq!(
+        level(&over_a(&[[32, 1, 0], [34, 2, 0]]), &[]),
+        Level::Neutral
+    );
+    assert_eq!(level(&over_a(&[[33, 1, 0], [34, 2, 0]]), &[]), Level::Weak);
+}
+
+#[test]
+fn p10_and_p11_clocks() {
+    let clocked = letters(&[[1, 2, 0], [17, 2, 3], [32, 5, 0], [40, 4, 6]]);
+    assert_eq!(level(&clocked, &[1, 5, 2, 6]), Level::Strong);
+    assert_eq!(level(&clocked, &[5, 2]), Level::Weak);
+}
+
+#[test]
+fn p12_match_ends() {
+    let mut judge = Judge::new();
+    let ends = judge.match_ends(&repeated_a(), &[1, 1, 2], 0).unwrap();
+    assert_eq!((ends.mask, ends.top), (6, false));
+    assert_eq!(ends.ends().collect::<Vec<_>>(), [1, 2]);
+    let ends = judge.match_ends(&repeated_a(), &[1, 1, 2], 3).unwrap();
+    assert_eq!((ends.mask, ends.top), (0, true));
+}
+
+#[test]
+fn an_implication_that_never_started_is_not_tested() {
+    let implies = letters(&[[32, 3, 0], [37, 2, 4]]);
+    let judgement = |samples: &[u64]| Judge::new().judge(&implies, samples).unwrap();
+    assert_eq!(judgement(&[0]).to_string(), "level 3 tested no");
+    assert_eq!(judgement(&[3]).to_string(), "level 3 tested yes");
+    assert_eq!(judgement(&[1]).to_string(), "level 0 tested yes");
+}
+
+#[test]
+fn the_rewritten_table_is_the_page_s() {
+    let clocked = [[1, 0, 0], [1, 2, 0], [16, 0, 0], [32, 2, 0], [40, 1, 3]];
+    let rewritten = table(&[
+        [1, 0, 0],
+        [1, 2, 0],
+        [2, 1, 0],
+        [3, 1, 0],
+        [16, 2, 0],
+        [20, 4, 0],
+        [16, 2, 0],
+        [21, 6, 0],
+        [19, 5, 7],
+        [16, 3, 0],
+        [17, 8, 9],
+        [32, 10, 0],
+    ]);
+    let mut out = [7; xistomar::TABLE_BYTES];
+    assert_eq!(xistomar::rewrite(&table(&clocked), &mut out), Ok(12));
+    assert_eq!(out[..54], rewritten);
+    assert!(out[54..].iter().all(|byte| *byte == 7));
+}
+
+#[test]
+fn a_record_is_read_in_order_and_later_words_stay() {
+    let mut out = [7; 3];
+    assert_eq!(xistomar::read(&record(&[1, u64::MAX]), &mut out), Ok(2));
+    assert_eq!(out, [1, u64::MAX, 7]);
+    assert_eq!(
+        xistomar::samples(&record(&[1, u64::MAX])),
+        Ok(vec![1, u64::MAX])
+    );
+    assert_eq!(xistomar::samples(&record(&[])), Ok(vec![]));
+}
+
+#[test]
+fn the_rows_stay_in_the_workspace() {
+    let mut workspace = [7; 3 * xistomar::SHARE + 1];
+    xistomar::judge(&strong_a(), &[1], &mut workspace).unwrap();
+    let mut rows = [0; 3 * xistomar::SHARE + 1];
+    rows[0] = 1; // a, at sample 0
+    rows[65] = 2; // the letter: sample 0 alone
+    rows[65 + 64] = 2; // and one ⊤, from the end on
+    rows[130..133].copy_from_slice(&[1, 3, 1]); // neutral, weak, strong of the two suffixes
+    rows[195] = 7; // lent beyond the rows
+    assert_eq!(workspace, rows);
+
+    let mut judge = Judge::new();
+    judge.judge(&strong_a(), &[1]).unwrap();
+    assert_eq!(judge.workspace()[..195], rows[..195]);
+}
+
+#[test]
+fn refusals_1_to_9_of_a_table() {
+    let check = |bytes: &[u8]| refused(xistomar::check(bytes));
+    let strong_a = strong_a();
+    let with = |place: usize, byte: u8| {
+        let mut bytes = strong_a.clone();
+        bytes[place] = byte;
+        bytes
+    };
+    assert_eq!(xistomar::check(&strong_a), Ok(()));
+    assert_eq!(check(&[]), (1, 0));
+    assert_eq!(check(&strong_a[..5]), (1, 0));
+    assert_eq!(check(&with(2, b'W')), (2, 0));
+    assert_eq!(check(&with(3, 2)), (3, 0));
+    assert_eq!(check(&with(5, 0)), (4, 0));
+    assert_eq!(check(&with(5, 121)), (4, 0));
+    assert_eq!(check(&with(5, 2)), (5, 0));
+    assert_eq!(check(&with(14, 99)), (6, 2));
+    assert_eq!(
+        check(&table(&[[1, 0, 0], [16, 0, 0], [16, 0, 0], [32, 2, 0]])),
+        (7, 1)
+    );
+    assert_eq!(check(&table(&[[1, 0, 0], [1, 1, 0]])), (8, 0));
+    assert_eq!(check(&over_a(&[[20, 1, 0], [32, 2, 0]])), (9, 3));
+}
+
+#[test]
+fn refusals_10_to_15_of_a_call() {
+    let mut judge = Judge::new();
+    let long = [0; 64];
+    assert!(judge.judge(&strong_a(), &long[..63]).is_ok());
+    assert_eq!(refused(judge.judge(&strong_a(), &long)), (10, 0));
+    assert_eq!(refused(xistomar::samples(&record(&long))), (10, 0));
+    assert_eq!(
+        refused(xistomar::judge(&strong_a(), &[], &mut [0; 194])),
+        (11, 0)
+    );
+    assert_eq!(refused(judge.judge(&repeated_a(), &[])), (12, 0));
+    assert_eq!(refused(judge.match_ends(&strong_a(), &[], 0)), (12, 0));
+    assert!(judge.judge(&clocked_letters(11), &[]).is_ok());
+    assert_eq!(refused(judge.judge(&clocked_letters(12), &[])), (13, 0));
+    assert_eq!(refused(judge.match_ends(&repeated_a(), &[1], 2)), (14, 0));
+    assert_eq!(refused(xistomar::read(&record(&[1]), &mut [])), (15, 0));
+    assert_eq!(
+        refused(xistomar::rewrite(&strong_a(), &mut [0; 17])),
+        (15, 0)
+    );
+}
+
+#[test]
+fn a_refused_call_changes_nothing_lent() {
+    let mut words = [7; 194];
+    refused(xistomar::judge(&strong_a(), &[1], &mut words));
+    refused(xistomar::match_ends(&repeated_a(), &[1], 0, &mut words));
+    refused(xistomar::read(&record(&[1])[..13], &mut words));
+    assert_eq!(words, [7; 194]);
+    let mut bytes = [7; 17];
+    refused(xistomar::rewrite(&strong_a(), &mut bytes));
+    assert_eq!(bytes, [7; 17]);
+}
+
+#[test]
+fn the_constants_are_the_header_s() {
+    let header = include_str!("../../../include/xistomar.h");
+    let constants = [
+        ("LONGEST", xistomar::LONGEST),
+        ("SHARE", xistomar::SHARE),
+        ("WORKSPACE", xistomar::WORKSPACE),
+        ("TABLE_BYTES", xistomar::TABLE_BYTES),
+        ("BROKEN", usize::from(Level::Broken.number())),
+        ("WEAK", usize::from(Level::Weak.number())),
+        ("NEUTRAL", usize::from(Level::Neutral.number())),
+        ("STRONG", usize::from(Level::Strong.number())),
+    ];
+    for (name, value) in constants {
+        let line = format!("XISTOMAR_{name} = {value}");
+        let found = header.lines().any(|text| {
+            let text = text.trim_start();
+            text.starts_with(&format!("{line},")) || text.starts_with(&format!("{line} "))
+        });
+        assert!(found, "include/xistomar.h does not say {line}");
+    }
+}
+
+#[test]
+fn the_line_of_a_table_and_a_record() {
+    let p1 = [a_then_b(32), record(&[1])].concat();
+    assert_eq!(xistomar::line(&p1), "level 1 tested yes");
+    assert_eq!(xistomar::line(&a_then_b(32)), "refused 1 at 0");
+    // A table's refusal comes before its record's.
+    let both = [over_a(&[[20, 1, 0], [32, 2, 0]]), record(&[0; 64])].concat();
+    assert_eq!(xistomar::line(&both), "refused 9 at 3");
+    let long = [a_then_b(32), record(&[0; 64])].concat();
+    assert_eq!(xistomar::line(&long), "refused 10 at 0");
+}
