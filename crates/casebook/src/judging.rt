@@ -1,0 +1,96 @@
+// The cases of the judge and of match ends: a table, samples, and the words that are lent. A function that answers a bool answers whether the line is a case.
+use crate::answers;
+use crate::lists;
+use crate::shares;
+use crate::text;
+use judge::judge;
+use judge::match_ends;
+
+// What is asked: the judge, or the match ends from a start.
+enum Question {
+    Level,
+    Ends(usize),
+}
+
+// Runs a case on the samples that the text lists.
+pub fn run(head: &[u8], table: &[u8], text: &[u8], short: bool) -> bool {
+    let mut space = [0u64; 100];
+    let samples = lists::numbers(text, 1, 16, &mut space);
+    let count = samples.count;
+    if !samples.good {
+        return false;
+    }
+    call(head, table, &space[0..count], short)
+}
+
+// Asks what the head says.
+fn call(head: &[u8], table: &[u8], samples: &[u64], short: bool) -> bool {
+    let size = text::after(head, b"judge ");
+    if size > 0 {
+        return lend(&head[size..], table, samples, Question::Level, short);
+    }
+    let start = text::after(head, b"ends ");
+    if start > 0 {
+        return begin(&head[start..], table, samples, short);
+    }
+    false
+}
+
+// Asks for the match ends from the start that the text, two numbers and a label, begins with.
+fn begin(text: &[u8], table: &[u8], samples: &[u64], short: bool) -> bool {
+    let start = text::opening(text, usize::MAX);
+    let size = start.rest;
+    if !start.good {
+        return false;
+    }
+    lend(
+        &text[size..],
+        table,
+        samples,
+        Question::Ends(start.value),
+        short,
+    )
+}
+
+// Lends as many words as the text, a number and a label, begins with.
+fn lend(text: &[u8], table: &[u8], samples: &[u64], question: Question, short: bool) -> bool {
+    let asked = text::opening(text, 7865);
+    let lent = asked.value;
+    let label = asked.rest;
+    if !asked.good {
+        return false;
+    }
+    let mut words = [0u64; 7865];
+    ask(
+        &text[label..],
+        table,
+        samples,
+        question,
+        &mut words[0..lent],
+        short,
+    );
+    true
+}
+
+// The words are printed whole, so that those left alone are seen.
+fn ask(
+    label: &[u8],
+    table: &[u8],
+    samples: &[u64],
+    question: Question,
+    words: &mut [u64],
+    short: bool,
+) {
+    shares::fill(words);
+    match question {
+        Question::Level => answers::judgement(label, judge(table, samples, words), words, short),
+        Question::Ends(start) => {
+            answers::ends(
+                label,
+                match_ends(table, samples, start, words),
+                words,
+                short,
+            )
+        }
+    }
+}

@@ -1,0 +1,159 @@
+//! The tester, tested: sides that answer wrong on purpose are found out, shrunk and printed.
+use crate::run::USUAL;
+use crate::{library_answer, Difference, Run, Side, Summary};
+use second::{Answer, Case};
+
+const RUN: Run = Run {
+    seed: 1,
+    cases: 4000,
+};
+
+/// The difference between a wrong side and `second`, and its text.
+fn found(wrong: Side) -> (Box<Difference>, String) {
+    let outcome = RUN.compare(wrong, second::answer);
+    let difference = outcome.expect_err("the wrong side was not found out");
+    assert_ne!(difference.library, difference.second);
+    assert_eq!(difference.library, wrong(&difference.case));
+    assert_eq!(difference.second, second::answer(&difference.case));
+    let text = difference.to_string();
+    let again = format!("XISTOMAR_SEED={} XISTOMAR_CASES=1 ", difference.seed);
+    assert!(text.contains(&again), "{text}");
+    (difference, text)
+}
+
+/// The library, but for level 1 it says 2: nothing has failed yet.
+fn waiting_is_neutral(case: &Case) -> Answer {
+    let mut answer = library_answer(case);
+    if let Answer::Judge(judgement, _) = &mut answer {
+        if judgement.level == 1 {
+            judgement.level = 2;
+        }
+    }
+    answer
+}
+
+/// The library, but the last word of the workspace has a wrong bit.
+fn last_word(case: &Case) -> Answer {
+    let mut answer = library_answer(case);
+    if let Answer::Judge(_, words) | Answer::Ends(_, words) = &mut answer {
+        if let Some(word) = words.last_mut() {
+            *word ^= 1;
+        }
+    }
+    answer
+}
+
+/// The library, but the last byte lent for a rewritten table is cleared.
+fn last_byte(case: &Case) -> Answer {
+    let mut answer = library_answer(case);
+    if let Answer::Rewrite(_, bytes) = &mut answer {
+        if let Some(byte) = bytes.last_mut() {
+            *byte = 0;
+        }
+    }
+    answer
+}
+
+/// The library, but a refused record clears the words lent.
+fn refusal_writes(case: &Case) -> Answer {
+    let mut answer = library_answer(case);
+    if let Answer::Read(reading, words) = &mut answer {
+        if reading.verdict.number != 0 {
+            words.fill(0);
+        }
+    }
+    answer
+}
+
+/// The library, but a table is refused with 6 at the next node.
+fn next_node(case: &Case) -> Answer {
+    let mut answer = library_answer(case);
+    if let Answer::Check(verdict) = &mut answer {
+        verdict.node += usize::from(verdict.number == 6);
+    }
+    answer
+}
+
+/// The library, but no sequence matches with ⊤ letters after the record.
+fn no_top(case: &Case) -> Answer {
+    let mut answer = library_answer(case);
+    if let Answer::Ends(ends, _) = &mut answer {
+        ends.top = false;
+    }
+    answer
+}
+
+/// The library, but the program says that every assertion was tested.
+fn always_tested(case: &Case) -> Answer {
+    match library_answer(case) {
+        Answer::Program(line) => Answer::Program(line.replace("tested no", "tested yes")),
+        answer => answer,
+    }
+}
+
+#[test]
+fn a_wrong_level_is_found_shrunk_and_printed() {
+    let (difference, text) = found(waiting_is_neutral);
+    let Case::Judge { table, samples, .. } = &difference.case else {
+        panic!("this is no case of the judge: {:?}", difference.case);
+    };
+    assert!(table.len() <= 18, "three nodes are enough: {table:?}");
+    assert!(samples.is_empty(), "no sample is needed: {samples:?}");
+    assert!(text.contains("level 1"), "{text}");
+    assert!(text.contains("level 2"), "{text}");
+}
+
+#[test]
+fn a_wrong_word_or_byte_that_was_lent_is_found() {
+    for (wrong, name) in [
+        (last_word as Side, "word"),
+        (last_byte, "byte"),
+        (refusal_writes, "word 0"),
+    ] {
+        let (_, text) = found(wrong);
+        assert!(text.contains(&format!("lent:    {name}")), "{text}");
+    }
+}
+
+#[test]
+fn every_kind_of_answer_is_compared() {
+    assert!(matches!(found(next_node).0.case, Case::Check { .. }));
+    assert!(matches!(found(refusal_writes).0.case, Case::Read { .. }));
+    assert!(matches!(found(last_byte).0.case, Case::Rewrite { .. }));
+    assert!(matches!(
+        found(waiting_is_neutral).0.case,
+        Case::Judge { .. }
+    ));
+    assert!(matches!(found(no_top).0.case, Case::Ends { .. }));
+    assert!(matches!(found(always_tested).0.case, Case::Program { .. }));
+}
+
+#[test]
+fn the_case_of_a_difference_can_be_run_alone() {
+    let (seed, cases) = (found(no_top).0.seed, 1);
+    let alone = Run { seed, cases }.compare(no_top, second::answer);
+    assert_eq!(alone.unwrap_err().seed, seed);
+}
+
+#[test]
+#[should_panic(expected = "a side panicked")]
+fn a_side_that_panics_is_not_passed_over() {
+    let _ = RUN.compare(|_| panic!("on purpose"), second::answer);
+}
+
+#[test]
+fn a_seed_fixes_the_cases_and_no_run_passes_on_nothing() {
+    let summary = RUN.compare(library_answer, library_answer).unwrap();
+    let again = RUN.compare(library_answer, library_answer).unwrap();
+    assert_eq!(summary, again);
+    assert_eq!(summary.cases(), RUN.cases);
+    assert_eq!(summary.lacking(RUN.cases), Vec::<String>::new());
+
+    let lacking = Summary::default().lacking(20_000);
+    assert_eq!(lacking.len(), 1 + 12 + 15 + 4 + 2);
+    assert_eq!(lacking[0], "0 cases, not 20000 or more");
+
+    let of_a_kind = 9 + 6 + 11 + 13 + 14 + 12;
+    let lacking = Summary::default().lacking(USUAL);
+    assert_eq!(lacking.len(), 1 + 12 + of_a_kind + 15 + 4 + 2);
+}

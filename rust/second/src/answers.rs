@@ -1,0 +1,216 @@
+//! The entry points, each with its refusals in the page's order.
+
+use crate::meaning::Meaning;
+use crate::node::{Node, Sort};
+use crate::record::{self, MOST_SAMPLES};
+use crate::rewriting::rewritten;
+use crate::rows::{rows, tested, WORDS_PER_NODE};
+use crate::table::{self, table_bytes, MOST_NODES};
+use crate::verdict::{refuse_if, Verdict};
+use crate::words::Tail;
+
+/// What reading a record answers.
+#[derive(Clone, Copy, Debug, PartialEq, Eq)]
+pub struct Reading {
+    pub verdict: Verdict,
+    pub count: usize,
+}
+
+/// What rewriting a table answers.
+#[derive(Clone, Copy, Debug, PartialEq, Eq)]
+pub struct Rewriting {
+    pub verdict: Verdict,
+    pub count: usize,
+}
+
+/// What the judge answers.
+#[derive(Clone, Copy, Debug, PartialEq, Eq)]
+pub struct Judgement {
+    pub verdict: Verdict,
+    pub level: u8,
+    pub tested: bool,
+}
+
+/// What match ends answers: the ends as a mask, and whether ⊤ letters help.
+#[derive(Clone, Copy, Debug, PartialEq, Eq)]
+pub struct MatchEnds {
+    pub verdict: Verdict,
+    pub mask: u64,
+    pub top: bool,
+}
+
+/// Checks a table: refusals 1 to 9.
+pub fn check(table: &[u8]) -> Verdict {
+    match table::checked(table) {
+        Ok(_) => Verdict::ACCEPTED,
+        Err(refusal) => refusal,
+    }
+}
+
+/// Reads a record into `out`: refusals 1, 2, 3, 10, 5, 15.
+pub fn read(record: &[u8], out: &mut [u64]) -> Reading {
+    let samples = record::checked(record).and_then(|samples| {
+        refuse_if(out.len() < samples.len(), 15)?;
+        Ok(samples)
+    });
+    match samples {
+        Ok(samples) => {
+            out[..samples.len()].copy_from_slice(&samples);
+            let (verdict, count) = (Verdict::ACCEPTED, samples.len());
+            Reading { verdict, count }
+        }
+        Err(verdict) => Reading { verdict, count: 0 },
+    }
+}
+
+/// Rewrites a table into `out`: refusals 1 to 9, 13, 15.
+pub fn rewrite(table: &[u8], out: &mut [u8]) -> Rewriting {
+    let rewritten = table::checked(table).and_then(|nodes| {
+        let rewritten = rewritten_in_limits(&nodes)?;
+        refuse_if(out.len() < 6 + 4 * rewritten.len(), 15)?;
+        Ok(rewritten)
+    });
+    match rewritten {
+        Ok(nodes) => {
+            let bytes = table_bytes(&nodes);
+            out[..bytes.len()].copy_from_slice(&bytes);
+            let (verdict, count) = (Verdict::ACCEPTED, nodes.len());
+            Rewriting { verdict, count }
+        }
+        Err(verdict) => Rewriting { verdict, count: 0 },
+    }
+}
+
+/// Judges the samples: refusals 1 to 9, 12, 13, 10, 11.
+pub fn judge(table: &[u8], samples: &[u64], workspace: &mut [u64]) -> Judgement {
+    let judged = judge_table(table).and_then(|(nodes, rewritten)| {
+        refuse_if(samples.len() > MOST_SAMPLES, 10)?;
+        refuse_if(workspace.len() < WORDS_PER_NODE * rewritten.len(), 11)?;
+        Ok((nodes, rewritten))
+    });
+    match judged {
+        Ok((nodes, rewritten)) => {
+            leave_rows(&rewritten, samples, workspace);
+            judgement(&nodes, &rewritten, samples)
+        }
+        Err(refusal) => refused_judgement(refusal),
+    }
+}
+
+/// Judges without a workspace, as if one of any size were lent.
+pub fn level(table: &[u8], samples: &[u64]) -> Judgement {
+    let judged = judge_table(table).and_then(|tables| {
+        refuse_if(samples.len() > MOST_SAMPLES, 10)?;
+        Ok(tables)
+    });
+    match judged {
+        Ok((nodes, rewritten)) => judgement(&nodes, &rewritten, samples),
+        Err(refusal) => refused_judgement(refusal),
+    }
+}
+
+/// Match ends from a start: refusals 1 to 9, 12, 13, 10, 14, 11.
+pub fn match_ends(table: &[u8], samples: &[u64], start: usize, workspace: &mut [u64]) -> MatchEnds {
+    let tables = table_with_root(table, Sort::Sequence).and_then(|(nodes, rewritten)| {
+        refuse_if(samples.len() > MOST_SAMPLES, 10)?;
+        refuse_if(start > samples.len(), 14)?;
+        refuse_if(workspace.len() < WORDS_PER_NODE * rewritten.len(), 11)?;
+        Ok((nodes, rewritten))
+    });
+    match tables {
+        Ok((nodes, rewritten)) => {
+            leave_rows(&rewritten, samples, workspace);
+            ends_from(&nodes, samples, start)
+        }
+        Err(verdict) => MatchEnds {
+            verdict,
+            mask: 0,
+            top: false,
+        },
+    }
+}
+
+/// The program's line for its standard input, without the newline.
+pub fn line(input: &[u8]) -> String {
+    let count = input.get(5).map_or(0, |&count| usize::from(count));
+    let (table, record) = input.split_at(input.len().min(6 + 4 * count));
+    let judged = judge_table(table).and_then(|_| record::checked(record));
+    match judged {
+        Ok(samples) => {
+            let judgement = level(table, &samples);
+            let tested = if judgement.tested { "yes" } else { "no" };
+            format!("level {} tested {}", judgement.level, tested)
+        }
+        Err(refusal) => format!("refused {} at {}", refusal.number, refusal.node),
+    }
+}
+
+/// A table for the judge and its rewriting: refusals 1 to 9, 12, 13.
+fn judge_table(table: &[u8]) -> Result<(Vec<Node>, Vec<Node>), Verdict> {
+    table_with_root(table, Sort::Property)
+}
+
+/// A table with a root of the sort asked for, and its rewriting.
+fn table_with_root(table: &[u8], sort: Sort) -> Result<(Vec<Node>, Vec<Node>), Verdict> {
+    let nodes = table::checked(table)?;
+    let right = nodes.last().map(|root| root.sort()) == Some(sort);
+    refuse_if(!right, 12)?;
+    let rewritten = rewritten_in_limits(&nodes)?;
+    Ok((nodes, rewritten))
+}
+
+/// The rewritten table, or refusal 13 for too many nodes.
+fn rewritten_in_limits(nodes: &[Node]) -> Result<Vec<Node>, Verdict> {
+    let rewritten = rewritten(nodes);
+    refuse_if(rewritten.len() > MOST_NODES, 13)?;
+    Ok(rewritten)
+}
+
+/// The level by the clocked definitions, and whether the rewriting was tested.
+fn judgement(nodes: &[Node], rewritten: &[Node], samples: &[u64]) -> Judgement {
+    let mut meaning = Meaning::new(nodes, samples);
+    let root = nodes.len() - 1;
+    let mut from_zero = |tail| meaning.satisfies(root, None, 0, tail);
+    let level = if from_zero(Tail::Bottom) {
+        3
+    } else if from_zero(Tail::Nothing) {
+        2
+    } else if from_zero(Tail::Top) {
+        1
+    } else {
+        0
+    };
+    Judgement {
+        verdict: Verdict::ACCEPTED,
+        level,
+        tested: tested(rewritten, samples),
+    }
+}
+
+/// The ends of the root's matches by the clocked definitions.
+fn ends_from(nodes: &[Node], samples: &[u64], start: usize) -> MatchEnds {
+    let mut meaning = Meaning::new(nodes, samples);
+    let root = nodes.len() - 1;
+    let inside = meaning.ends(root, None, start, Tail::Nothing);
+    let with_top = meaning.ends(root, None, start, Tail::Top);
+    MatchEnds {
+        verdict: Verdict::ACCEPTED,
+        mask: inside.iter().fold(0, |mask, &end| mask | 1 << end),
+        top: with_top.iter().any(|&end| end > samples.len()),
+    }
+}
+
+/// Writes the rows of the rewritten table and leaves the words after them.
+fn leave_rows(rewritten: &[Node], samples: &[u64], workspace: &mut [u64]) {
+    let rows = rows(rewritten, samples);
+    workspace[..rows.len()].copy_from_slice(&rows);
+}
+
+/// A refused judgement has level 0 and is not tested.
+fn refused_judgement(verdict: Verdict) -> Judgement {
+    Judgement {
+        verdict,
+        level: 0,
+        tested: false,
+    }
+}

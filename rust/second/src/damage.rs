@@ -1,0 +1,179 @@
+//! Damaging tables and records, so that every refusal is met.
+
+use crate::node::{Node, Sort, OPERATORS};
+use crate::random::Random;
+use crate::table::{readable, table_bytes};
+
+/// Damages a table once, in one of many ways.
+pub fn damage_table(random: &mut Random, bytes: &mut Vec<u8>) {
+    match random.weighted(&[16, 14, 30, 10, 14, 10, 4]) {
+        0 => damage_bytes(random, bytes),
+        1 => damage_header(random, bytes),
+        2 => damage_node(random, bytes),
+        3 => move_operand(random, bytes),
+        4 => make_hollow(random, bytes),
+        5 => make_boolean_root(random, bytes),
+        _ => *bytes = random_bytes(random, 40),
+    }
+}
+
+/// Damages any bytes: flip, insert, delete, truncate, append or empty.
+pub fn damage_bytes(random: &mut Random, bytes: &mut Vec<u8>) {
+    let at = random.below(bytes.len().max(1));
+    match random.below(7) {
+        0 if at < bytes.len() => bytes[at] ^= 1 << random.below(8),
+        1 => bytes.insert(at.min(bytes.len()), random.next() as u8),
+        2 if at < bytes.len() => {
+            bytes.remove(at);
+        }
+        3 => bytes.truncate(at),
+        4 => bytes.truncate(random.below(7)),
+        5 => bytes.extend(random_bytes(random, 9)),
+        _ if random.percent(20) => bytes.clear(),
+        _ => bytes.push(b'\n'),
+    }
+}
+
+/// Changes mark, version or count; the count with or without the length.
+pub fn damage_header(random: &mut Random, bytes: &mut Vec<u8>) {
+    if bytes.len() < 6 {
+        return;
+    }
+    match random.below(6) {
+        0 => bytes[random.below(3)] = random.pick(b"SVTWsvtw\0"),
+        1 => bytes[3 + random.below(2)] = random.pick(&[0, 1, 2, 255]),
+        2 => bytes[5] = random.pick(&[0, 120, 121, 63, 64, 255]),
+        3 => bytes[5] = random.next() as u8,
+        4 => bytes[5] = bytes[5].wrapping_add(random.pick(&[1, 255])),
+        _ => {
+            bytes[5] = random.pick(&[0, 121, 130, 255]);
+            bytes.resize(6 + 4 * usize::from(bytes[5]), 0);
+        }
+    }
+}
+
+/// Some random bytes, often with a good beginning.
+fn random_bytes(random: &mut Random, most: usize) -> Vec<u8> {
+    let mut bytes: Vec<u8> = (0..random.below(most + 1))
+        .map(|_| random.next() as u8)
+        .collect();
+    if random.percent(50) {
+        let mark = [b'S', b'V', b'T', 1, 0];
+        for (byte, good) in bytes.iter_mut().zip(mark) {
+            *byte = good;
+        }
+    }
+    bytes
+}
+
+/// Where a random node begins, if there is a whole one.
+fn random_node(random: &mut Random, bytes: &[u8]) -> Option<(usize, usize)> {
+    let count = bytes.len().saturating_sub(6) / 4;
+    if count == 0 {
+        return None;
+    }
+    let node = random.below(count);
+    Some((node, 6 + 4 * node))
+}
+
+/// Damages one node: operator, x, y, fourth byte; or drops or doubles it.
+fn damage_node(random: &mut Random, bytes: &mut Vec<u8>) {
+    let Some((node, at)) = random_node(random, bytes) else {
+        return;
+    };
+    let place = at + random.between(1, 2);
+    match random.below(9) {
+        0 => bytes[at] = random.next() as u8,
+        1 => bytes[at] = random.pick(&OPERATORS),
+        2 => bytes[place] = random.below(node + 1) as u8,
+        3 => bytes[place] = random.between(node, node + 2) as u8,
+        4 => bytes[place] = random.next() as u8,
+        5 => bytes[at + 3] = 1 << random.below(8),
+        6 => spoil_number(random, bytes),
+        7 => drop_node(bytes, at),
+        _ => double_node(bytes, at),
+    }
+}
+
+/// Gives a constant or a signal a number just too large.
+fn spoil_number(random: &mut Random, bytes: &mut [u8]) {
+    for node in bytes[6..].chunks_exact_mut(4) {
+        if node[0] <= 1 && random.percent(50) {
+            node[1] = [2, 64][usize::from(node[0])];
+            return;
+        }
+    }
+}
+
+/// Takes a node out and lowers the count, but renumbers nothing.
+fn drop_node(bytes: &mut Vec<u8>, at: usize) {
+    bytes.drain(at..at + 4);
+    bytes[5] = bytes[5].wrapping_sub(1);
+}
+
+/// Puts a copy of a node at the end as the root and raises the count.
+fn double_node(bytes: &mut Vec<u8>, at: usize) {
+    bytes.extend_from_within(at..at + 4);
+    bytes[5] = bytes[5].wrapping_add(1);
+}
+
+/// Points one operand to another node of the same sort, so that a node is used
+/// twice and another never.
+fn move_operand(random: &mut Random, bytes: &mut [u8]) {
+    let Some(nodes) = readable(bytes) else { return };
+    let mut moves = Vec::new();
+    for (index, node) in nodes.iter().enumerate() {
+        let (_, x, _) = node.parts();
+        for operand in node.operands() {
+            let sort = nodes[operand].sort();
+            let others = (0..index).filter(|&other| other != operand);
+            let alike =
+                others.filter(|&other| sort != Sort::Boolean && nodes[other].sort() == sort);
+            let place = if operand == x { 1 } else { 2 };
+            moves.extend(alike.map(|other| (6 + 4 * index + place, other)));
+        }
+    }
+    if !moves.is_empty() {
+        let (place, other) = random.pick(&moves);
+        bytes[place] = other as u8;
+    }
+}
+
+/// Puts `[*0]` over the sequence of a strong, weak or `|->`.
+fn make_hollow(random: &mut Random, bytes: &mut Vec<u8>) {
+    let Some(nodes) = readable(bytes) else { return };
+    let sequence = |node: &Node| match *node {
+        Node::Strong(r) | Node::Weak(r) | Node::Implies(r, _) => Some(r),
+        _ => None,
+    };
+    let sequences: Vec<usize> = nodes.iter().filter_map(sequence).collect();
+    if sequences.is_empty() || nodes.len() >= 120 {
+        return;
+    }
+    let r = random.pick(&sequences);
+    *bytes = table_bytes(&with_node_above(&nodes, r, Node::Empty(r)));
+}
+
+/// The table with a new node right after node r that takes r's place.
+fn with_node_above(nodes: &[Node], r: usize, above: Node) -> Vec<Node> {
+    let moved = |old: usize| if old >= r { old + 1 } else { old };
+    let mut out: Vec<Node> = nodes[..=r].to_vec();
+    out.push(above);
+    out.extend(nodes[r + 1..].iter().map(|node| node.renumbered(moved)));
+    out
+}
+
+/// Keeps the booleans only, or puts one more boolean at the end.
+fn make_boolean_root(random: &mut Random, bytes: &mut Vec<u8>) {
+    let Some(nodes) = readable(bytes) else { return };
+    let mut kept: Vec<Node> = Vec::new();
+    if random.percent(80) {
+        let leaves = nodes.iter().filter(|node| node.sort() == Sort::Boolean);
+        let is_leaf = |node: &&Node| matches!(node, Node::Signal(_) | Node::Constant(_));
+        kept.extend(leaves.filter(is_leaf));
+    } else if nodes.len() < 120 {
+        kept.extend(nodes);
+    }
+    kept.push(Node::Constant(1));
+    *bytes = table_bytes(&kept);
+}

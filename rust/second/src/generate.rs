@@ -1,0 +1,373 @@
+//! Random cases: a pure function of the seed.
+
+use crate::case::Case;
+use crate::damage::{damage_bytes, damage_header, damage_table};
+use crate::grow::{filled, grown, grown_once, Plan, Shape};
+use crate::node::{Node, Sort};
+use crate::random::Random;
+use crate::record::record_bytes;
+use crate::rewriting::rewritten;
+use crate::rows::WORDS_PER_NODE;
+use crate::table::{table_bytes, MOST_NODES};
+
+/// How often, of a hundred cases, one is spoilt somewhere.
+const SPOILT: usize = 40;
+
+/// The most words of workspace a case lends.
+const MOST_WORKSPACE: usize = 7865;
+
+/// A table and its signals, with the rewritten count.
+struct Made {
+    bytes: Vec<u8>,
+    signals: Vec<usize>,
+    m: usize,
+}
+
+/// The case of a seed.
+pub fn random_case(seed: u64) -> Case {
+    let random = &mut Random::new(seed);
+    match random.weighted(&[8, 8, 14, 40, 20, 10]) {
+        0 => check_case(random),
+        1 => read_case(random),
+        2 => rewrite_case(random),
+        3 => judge_case(random),
+        4 => ends_case(random),
+        _ => program_case(random),
+    }
+}
+
+/// Either sort of root.
+fn any_root(random: &mut Random) -> Sort {
+    random.pick(&[Sort::Property, Sort::Property, Sort::Sequence])
+}
+
+/// The other sort of root.
+fn other_root(root: Sort) -> Sort {
+    match root {
+        Sort::Property => Sort::Sequence,
+        _ => Sort::Property,
+    }
+}
+
+/// A good table with a root of this sort.
+fn made(random: &mut Random, root: Sort) -> Made {
+    let size_class = random.weighted(&[62, 24, 8, 6]);
+    let size = match size_class {
+        0 => random.between(1, 9),
+        1 => random.between(8, 30),
+        2 => random.between(30, 110),
+        _ => random.between(1, 60),
+    };
+    let mut plan = plan(random, root, size);
+    if root == Sort::Sequence && random.percent(50) {
+        plan.shape = Shape::Broad;
+    }
+    let mut nodes = grown(random, &plan);
+    if size_class == 3 {
+        let target = random.between(112, 126).min(MOST_NODES);
+        nodes = filled(random, nodes, target);
+    }
+    made_of(&nodes, plan)
+}
+
+/// A table whose rewriting has just too many nodes, or far too many.
+fn made_too_large(random: &mut Random, root: Sort) -> Made {
+    for _ in 0..20 {
+        let size = random.between(10, 60);
+        let mut plan = plan(random, root, size);
+        plan.clocks = random.between(10, 60);
+        let mut nodes = grown_once(random, &plan, size);
+        if nodes.len() < MOST_NODES && rewritten(&nodes).len() > nodes.len() {
+            nodes = filled(random, nodes, MOST_NODES + 1);
+        }
+        if nodes.len() <= MOST_NODES && rewritten(&nodes).len() > MOST_NODES {
+            return made_of(&nodes, plan);
+        }
+    }
+    made(random, root)
+}
+
+/// The bytes of a table and what goes with it.
+fn made_of(nodes: &[Node], plan: Plan) -> Made {
+    Made {
+        bytes: table_bytes(nodes),
+        signals: plan.signals,
+        m: rewritten(nodes).len(),
+    }
+}
+
+/// What a random table should be like.
+fn plan(random: &mut Random, root: Sort, size: usize) -> Plan {
+    let shapes = [
+        Shape::Even,
+        Shape::Left,
+        Shape::Right,
+        Shape::Mixed,
+        Shape::Mixed,
+        Shape::Chain,
+        Shape::Broad,
+        Shape::Broad,
+    ];
+    Plan {
+        root,
+        size,
+        signals: signals(random),
+        clocks: random.pick(&[0, 0, 4, 10, 25]),
+        empties: random.pick(&[0, 3, 8, 15]),
+        shape: random.pick(&shapes),
+        mixed_order: random.percent(40),
+        unused_booleans: random.pick(&[0, 0, 0, 1, 3]),
+    }
+}
+
+/// A few signals, so that things match.
+fn signals(random: &mut Random) -> Vec<usize> {
+    match random.below(8) {
+        0 => vec![0],
+        1 | 2 => vec![0, 1],
+        3 | 4 => vec![0, 1, 2],
+        5 => vec![0, 63],
+        6 => vec![0, 1, 2, 3, 4],
+        _ => (0..3).map(|_| random.below(64)).collect(),
+    }
+}
+
+/// How many samples a good record has: mostly few.
+fn record_length(random: &mut Random) -> usize {
+    match random.weighted(&[10, 56, 20, 8, 6]) {
+        0 => 0,
+        1 => random.between(1, 3),
+        2 => random.between(3, 14),
+        3 => random.between(15, 62),
+        _ => random.between(60, 63),
+    }
+}
+
+/// Samples over a few signals, thin or mostly dense, with runs or noise at times.
+fn samples(random: &mut Random, n: usize, signals: &[usize]) -> Vec<u64> {
+    let density = random.pick(&[10, 30, 50, 70, 90, 95, 100]);
+    let repeats = random.pick(&[0, 0, 30, 70]);
+    let noisy = random.percent(10);
+    let mut samples: Vec<u64> = Vec::new();
+    for _ in 0..n {
+        let mut sample = if noisy { random.next() } else { 0 };
+        for &signal in signals {
+            let set = u64::from(random.percent(density));
+            sample = sample & !(1 << signal) | set << signal;
+        }
+        match samples.last() {
+            Some(&last) if random.percent(repeats) => samples.push(last),
+            _ => samples.push(sample),
+        }
+    }
+    samples
+}
+
+/// A good record for a table.
+fn good_samples(random: &mut Random, signals: &[usize]) -> Vec<u64> {
+    let n = record_length(random);
+    samples(random, n, signals)
+}
+
+/// A record with too many samples.
+fn too_many_samples(random: &mut Random, signals: &[usize]) -> Vec<u64> {
+    let n = random.pick(&[64, 64, 65, 70, 100]);
+    samples(random, n, signals)
+}
+
+/// A workspace that is large enough: often exactly.
+fn good_words(random: &mut Random, m: usize) -> usize {
+    let least = WORDS_PER_NODE * m;
+    let words = match random.weighted(&[60, 15, 15, 5, 5]) {
+        0 => least,
+        1 => least + 1,
+        2 => least + random.below(70),
+        3 => 7800,
+        _ => MOST_WORKSPACE,
+    };
+    words.clamp(least.min(MOST_WORKSPACE), MOST_WORKSPACE)
+}
+
+/// A workspace that is too small: often by one word.
+fn few_words(random: &mut Random, m: usize) -> usize {
+    let least = (WORDS_PER_NODE * m).min(MOST_WORKSPACE);
+    match random.below(4) {
+        0 | 1 => least.saturating_sub(1),
+        2 => least.saturating_sub(65),
+        _ => random.below(least),
+    }
+}
+
+/// Damages a table once, and at times again.
+fn damaged(random: &mut Random, bytes: &mut Vec<u8>) {
+    damage_table(random, bytes);
+    while random.percent(25) {
+        damage_table(random, bytes);
+    }
+}
+
+/// Checking a table.
+fn check_case(random: &mut Random) -> Case {
+    let root = any_root(random);
+    let mut table = made(random, root).bytes;
+    if random.percent(SPOILT + 20) {
+        damaged(random, &mut table);
+    }
+    Case::Check { table }
+}
+
+/// Reading a record.
+fn read_case(random: &mut Random) -> Case {
+    let signals = signals(random);
+    let mut samples = good_samples(random, &signals);
+    let spoilt = random.percent(SPOILT);
+    if spoilt && random.percent(25) {
+        samples = too_many_samples(random, &signals);
+    }
+    let mut words = match random.below(3) {
+        0 => samples.len(),
+        1 => 64,
+        _ => random.between(samples.len(), 64),
+    };
+    let mut record = record_bytes(&samples);
+    if spoilt && random.percent(35) {
+        words = random.below(samples.len());
+    }
+    if spoilt && random.percent(35) {
+        damage_bytes(random, &mut record);
+    }
+    if spoilt && random.percent(35) {
+        damage_header(random, &mut record);
+    }
+    let words = words.min(64);
+    Case::Read { record, words }
+}
+
+/// Rewriting a table.
+fn rewrite_case(random: &mut Random) -> Case {
+    let root = any_root(random);
+    let fault = if random.percent(SPOILT) {
+        random.between(1, 4)
+    } else {
+        0
+    };
+    let mut table = match fault {
+        2 => made_too_large(random, root),
+        _ => made(random, root),
+    };
+    let needed = 6 + 4 * table.m;
+    let mut bytes = random.pick(&[needed, needed, needed + 1, needed + 9, 486, 500]);
+    bytes = bytes.max(needed).min(500);
+    if fault == 3 || fault == 4 || fault != 0 && random.percent(10) {
+        let fewer = [needed - 1, needed - 1, 0, random.below(needed)];
+        bytes = random.pick(&fewer).min(500);
+    }
+    if fault == 1 || fault != 0 && random.percent(15) {
+        damaged(random, &mut table.bytes);
+    }
+    let table = table.bytes;
+    Case::Rewrite { table, bytes }
+}
+
+/// A table, samples and a workspace for the judge or for match ends, with one
+/// fault or several when it is to be spoilt.
+fn call(random: &mut Random, root: Sort, spoilt: bool) -> (Vec<u8>, Vec<u64>, usize) {
+    let fault = if spoilt { random.between(1, 5) } else { 0 };
+    let again = |random: &mut Random| spoilt && random.percent(12);
+    let root = if fault == 1 || again(random) {
+        other_root(root)
+    } else {
+        root
+    };
+    let mut table = match fault == 2 || again(random) {
+        true => made_too_large(random, root),
+        false => made(random, root),
+    };
+    let samples = match fault == 3 || again(random) {
+        true => too_many_samples(random, &table.signals),
+        false => good_samples(random, &table.signals),
+    };
+    let words = match fault == 4 || again(random) {
+        true => few_words(random, table.m),
+        false => good_words(random, table.m),
+    };
+    if fault == 5 || again(random) {
+        damaged(random, &mut table.bytes);
+    }
+    (table.bytes, samples, words)
+}
+
+/// Judging.
+fn judge_case(random: &mut Random) -> Case {
+    let spoilt = random.percent(SPOILT - 5);
+    let (table, samples, words) = call(random, Sort::Property, spoilt);
+    Case::Judge {
+        table,
+        samples,
+        words,
+    }
+}
+
+/// Match ends.
+fn ends_case(random: &mut Random) -> Case {
+    let spoilt = random.percent(SPOILT - 8);
+    let (table, samples, words) = call(random, Sort::Sequence, spoilt);
+    let n = samples.len();
+    let start = match random.weighted(&[52, 32, 7, 6, 3]) {
+        0 => 0,
+        1 => random.between(0, n),
+        2 => n,
+        3 => n + 1,
+        _ => random.pick(&[n + 2, 64, 255, 1 << 32, usize::MAX]),
+    };
+    Case::Ends {
+        table,
+        samples,
+        start,
+        words,
+    }
+}
+
+/// The program on a table and a record.
+fn program_case(random: &mut Random) -> Case {
+    let spoilt = random.percent(SPOILT);
+    let fault = if spoilt { random.between(1, 9) } else { 0 };
+    let root = if fault == 1 {
+        Sort::Sequence
+    } else {
+        Sort::Property
+    };
+    let mut table = match fault {
+        2 => made_too_large(random, root),
+        _ => made(random, root),
+    };
+    let samples = match fault {
+        3 => too_many_samples(random, &table.signals),
+        _ => good_samples(random, &table.signals),
+    };
+    let mut record = record_bytes(&samples);
+    match fault {
+        4 => damaged(random, &mut table.bytes),
+        5 => damage_bytes(random, &mut record),
+        6 => damage_header(random, &mut record),
+        7 => record.clear(),
+        8 => damage_header(random, &mut table.bytes),
+        _ => {}
+    }
+    let mut input = table.bytes;
+    input.extend(record);
+    if fault == 9 {
+        spoil_length(random, &mut input);
+    }
+    input.truncate(2000);
+    Case::Program { input }
+}
+
+/// Makes an input end early or go on beyond the longest good one.
+fn spoil_length(random: &mut Random, input: &mut Vec<u8>) {
+    match random.below(3) {
+        0 => input.truncate(random.below(input.len())),
+        1 => input.push(random.pick(b"\n\0 ")),
+        _ => input.resize(random.between(990, 1500), random.next() as u8),
+    }
+}

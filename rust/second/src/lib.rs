@@ -1,0 +1,38 @@
+//! A second opinion on clocked assertions over sampled records.
+//!
+//! Every answer follows the definitions of document 01 clause by clause, on
+//! explicit letters. It is slow on purpose and shares nothing with the product.
+
+#![forbid(unsafe_code)]
+
+mod answers;
+mod case;
+mod damage;
+mod generate;
+mod grow;
+#[cfg(test)]
+mod literal;
+mod matching;
+mod meaning;
+mod node;
+mod random;
+mod record;
+mod rewriting;
+mod rows;
+mod shrink;
+mod stored;
+mod table;
+#[cfg(test)]
+mod tests;
+mod text;
+mod verdict;
+mod words;
+
+pub use answers::{check, judge, level, line, match_ends, read, rewrite};
+pub use answers::{Judgement, MatchEnds, Reading, Rewriting};
+pub use case::{answer, lent_bytes, lent_samples, lent_workspace, Answer, Case};
+pub use generate::random_case;
+pub use shrink::shrink;
+pub use stored::stored;
+pub use text::{answer_text, case_text, parse_case};
+pub use verdict::Verdict;

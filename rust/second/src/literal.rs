@@ -1,0 +1,200 @@
+//! The definitions once more, as literally as can be, for tests only.
+//!
+//! Stretches are slices, words are letters with a tail, and nothing is
+//! remembered. It serves only tables and records that are quite small.
+
+use crate::node::Node;
+use crate::words::{Letter, Tail};
+
+/// A word: some letters, then the tail for ever.
+#[derive(Clone)]
+pub struct Word {
+    pub letters: Vec<Letter>,
+    pub tail: Tail,
+}
+
+impl Word {
+    /// The first k letters, if the word has as many.
+    fn prefix(&self, k: usize) -> Option<Vec<Letter>> {
+        let mut letters = self.letters.clone();
+        while letters.len() < k {
+            letters.push(self.tail.letter()?);
+        }
+        letters.truncate(k);
+        Some(letters)
+    }
+
+    /// The word without its first i letters.
+    fn suffix(&self, i: usize) -> Word {
+        let letters = self.letters.iter().skip(i).copied().collect();
+        let tail = self.tail;
+        Word { letters, tail }
+    }
+
+    /// The word with ⊤ and ⊥ swapped.
+    fn bar(&self) -> Word {
+        Word {
+            letters: self.letters.iter().map(|&letter| bar(letter)).collect(),
+            tail: self.tail.bar(),
+        }
+    }
+}
+
+/// The letter with ⊤ and ⊥ swapped.
+fn bar(letter: Letter) -> Letter {
+    match letter {
+        Letter::Sample(sample) => Letter::Sample(sample),
+        Letter::Top => Letter::Bottom,
+        Letter::Bottom => Letter::Top,
+    }
+}
+
+/// A table with a bound on the letters of a tail that are looked at.
+pub struct Literal<'a> {
+    pub table: &'a [Node],
+    pub bound: usize,
+}
+
+impl Literal<'_> {
+    /// Whether a letter satisfies a boolean.
+    fn letter(&self, b: usize, letter: Letter) -> bool {
+        match letter {
+            Letter::Sample(sample) => self.sample(b, sample),
+            Letter::Top => true,
+            Letter::Bottom => false,
+        }
+    }
+
+    /// Whether a letter satisfies not c.
+    fn letter_not(&self, c: usize, letter: Letter) -> bool {
+        match letter {
+            Letter::Sample(sample) => !self.sample(c, sample),
+            Letter::Top => true,
+            Letter::Bottom => false,
+        }
+    }
+
+    /// The value of a boolean on a sample.
+    fn sample(&self, b: usize, sample: u64) -> bool {
+        match self.table[b] {
+            Node::Constant(x) => x == 1,
+            Node::Signal(s) => sample & 1 << s != 0,
+            Node::Not(x) => !self.sample(x, sample),
+            Node::And(x, y) => self.sample(x, sample) && self.sample(y, sample),
+            Node::Or(x, y) => self.sample(x, sample) || self.sample(y, sample),
+            _ => unreachable!("only booleans are asked for here"),
+        }
+    }
+
+    /// Whether a stretch matches a sequence under a clock.
+    pub fn matches(&self, node: usize, clock: Option<usize>, stretch: &[Letter]) -> bool {
+        let long = stretch.len();
+        match self.table[node] {
+            Node::Letter(b) => self.matches_letter(b, clock, stretch),
+            Node::Then(r, s) => (0..=long).any(|k| {
+                self.matches(r, clock, &stretch[..k]) && self.matches(s, clock, &stretch[k..])
+            }),
+            Node::Fuse(r, s) => (0..long).any(|k| {
+                self.matches(r, clock, &stretch[..=k]) && self.matches(s, clock, &stretch[k..])
+            }),
+            Node::Either(r, s) => {
+                self.matches(r, clock, stretch) || self.matches(s, clock, stretch)
+            }
+            Node::Empty(_) => stretch.is_empty(),
+            Node::Repeat(r) => {
+                self.matches(r, clock, stretch)
+                    || (1..long).any(|k| {
+                        self.matches(r, clock, &stretch[..k])
+                            && self.matches(node, clock, &stretch[k..])
+                    })
+            }
+            Node::ClockSequence(c, r) => self.matches(r, Some(c), stretch),
+            _ => unreachable!("only sequences are asked for here"),
+        }
+    }
+
+    /// Whether a stretch matches a letter node.
+    fn matches_letter(&self, b: usize, clock: Option<usize>, stretch: &[Letter]) -> bool {
+        match (clock, stretch.split_last()) {
+            (_, None) => false,
+            (None, Some((&last, earlier))) => earlier.is_empty() && self.letter(b, last),
+            (Some(c), Some((&last, earlier))) => {
+                let waits = earlier.iter().all(|&letter| self.letter_not(c, letter));
+                waits && self.letter(c, last) && self.letter(b, last)
+            }
+        }
+    }
+
+    /// Whether a word satisfies a property under a clock.
+    pub fn satisfies(&self, node: usize, clock: Option<usize>, w: &Word) -> bool {
+        match self.table[node] {
+            Node::Strong(r) => self.strong(r, clock, w),
+            Node::Weak(r) => self.lengths(w).all(|k| match w.prefix(k) {
+                None => true,
+                Some(letters) => {
+                    let tail = Tail::Top;
+                    self.strong(r, clock, &Word { letters, tail })
+                }
+            }),
+            Node::NotProperty(p) => !self.satisfies(p, clock, &w.bar()),
+            Node::OrProperty(p, q) => self.satisfies(p, clock, w) || self.satisfies(q, clock, w),
+            Node::AndProperty(p, q) => self.satisfies(p, clock, w) && self.satisfies(q, clock, w),
+            Node::Implies(r, p) => self.lengths(w).all(|k| match w.bar().prefix(k) {
+                Some(prefix) if self.matches(r, clock, &prefix) => {
+                    self.satisfies(p, clock, &w.suffix(k - 1))
+                }
+                _ => true,
+            }),
+            Node::Nexttime(p) => self.nexttime(p, clock, w),
+            Node::Until(p, q) => self.until(p, q, clock, w),
+            Node::ClockProperty(c, p) => self.satisfies(p, Some(c), w),
+            _ => unreachable!("only properties are asked for here"),
+        }
+    }
+
+    /// The lengths of the non-empty prefixes that are looked at.
+    fn lengths(&self, w: &Word) -> std::ops::RangeInclusive<usize> {
+        1..=w.letters.len() + self.bound
+    }
+
+    /// Whether some non-empty prefix matches.
+    fn strong(&self, r: usize, clock: Option<usize>, w: &Word) -> bool {
+        self.lengths(w).any(|k| match w.prefix(k) {
+            Some(prefix) => self.matches(r, clock, &prefix),
+            None => false,
+        })
+    }
+
+    /// nexttime, with and without a clock.
+    fn nexttime(&self, p: usize, clock: Option<usize>, w: &Word) -> bool {
+        let Some(c) = clock else {
+            return w.prefix(1).is_none() || self.satisfies(p, None, &w.suffix(1));
+        };
+        let is_tick = |&at: &usize| match w.letters[at] {
+            Letter::Sample(sample) => self.sample(c, sample),
+            _ => false,
+        };
+        let ticks: Vec<usize> = (0..w.letters.len()).filter(is_tick).collect();
+        match ticks[..] {
+            [_, second, ..] => self.satisfies(p, clock, &w.suffix(second)),
+            _ => w.tail != Tail::Bottom,
+        }
+    }
+
+    /// until, with and without a clock: both halves of the rule.
+    fn until(&self, p: usize, q: usize, clock: Option<usize>, w: &Word) -> bool {
+        let first = |at: usize| w.suffix(at).prefix(1).map(|prefix| prefix[0]);
+        let inside: Vec<(usize, Letter)> = (0..w.letters.len() + 2)
+            .filter_map(|at| first(at).map(|letter| (at, letter)))
+            .collect();
+        let has_q = |&(at, letter): &(usize, Letter)| {
+            clock.is_none_or(|c| self.letter(c, letter)) && self.satisfies(q, clock, &w.suffix(at))
+        };
+        let has_p = |&(at, letter): &(usize, Letter)| {
+            let asked = clock.is_none_or(|c| self.letter(c, bar(letter)));
+            !asked || self.satisfies(p, clock, &w.suffix(at))
+        };
+        let met = (0..inside.len()).any(|at| has_q(&inside[at]) && inside[..at].iter().all(has_p));
+        met || inside.iter().all(has_p)
+    }
+}

@@ -1,0 +1,220 @@
+//! Checks over random cases: the definitions twice, and rows against answers.
+
+use crate::grow::{grown, Plan, Shape};
+use crate::literal::{Literal, Word};
+use crate::meaning::Meaning;
+use crate::node::{clocks, Node, Sort};
+use crate::random::Random;
+use crate::rewriting::rewritten;
+use crate::table::{checked, table_bytes};
+use crate::words::{whole, Tail};
+use crate::{answer, check, judge, level, line, match_ends, random_case, read, rewrite};
+use crate::{Answer, Case, Verdict};
+
+const TAILS: [Tail; 3] = [Tail::Nothing, Tail::Top, Tail::Bottom];
+
+/// The table and samples of a case that is accepted by judge or match ends.
+fn accepted(seed: u64) -> Option<(Vec<Node>, Vec<u64>)> {
+    let case = random_case(seed);
+    let (Case::Judge { table, samples, .. } | Case::Ends { table, samples, .. }) = &case else {
+        return None;
+    };
+    let nodes = checked(table).ok()?;
+    (samples.len() <= 63).then(|| (nodes, samples.clone()))
+}
+
+/// A small table with many clocks, and a short record.
+fn small(random: &mut Random) -> (Vec<Node>, Vec<u64>) {
+    let plan = Plan {
+        root: random.pick(&[Sort::Property, Sort::Property, Sort::Sequence]),
+        size: random.between(2, 8),
+        signals: vec![0, 1],
+        clocks: random.pick(&[5, 30, 60]),
+        empties: 8,
+        shape: random.pick(&[Shape::Mixed, Shape::Chain]),
+        mixed_order: false,
+        unused_booleans: 0,
+    };
+    let nodes = grown(random, &plan);
+    let samples = (0..random.below(4)).map(|_| random.next() & 3).collect();
+    (nodes, samples)
+}
+
+#[test]
+fn definitions_agree_with_the_literal_ones() {
+    let random = &mut Random::new(5);
+    let mut compared = [0; 41];
+    for _ in 0..12_000 {
+        let (nodes, samples) = small(random);
+        let letters = nodes.iter().filter(|n| matches!(n, Node::Letter(_)));
+        if letters.count() <= 3 {
+            compare(&nodes, &samples);
+            for (node, clock) in nodes.iter().zip(clocks(&nodes)) {
+                let operator = usize::from(node.parts().0);
+                compared[operator] += usize::from(clock.is_some());
+            }
+        }
+    }
+    for operator in (16..=22).chain(32..=40) {
+        assert!(compared[operator] > 100, "{operator}: {compared:?}");
+    }
+}
+
+/// Compares both readings of the definitions on one table and record.
+fn compare(nodes: &[Node], samples: &[u64]) {
+    let literal = Literal {
+        table: nodes,
+        bound: 5,
+    };
+    let mut meaning = Meaning::new(nodes, samples);
+    let (root, n) = (nodes.len() - 1, samples.len());
+    for tail in TAILS {
+        let letters = whole(samples, tail, 4);
+        for i in 0..=n {
+            if nodes[root].sort() == Sort::Property {
+                let letters = letters[i..n].to_vec();
+                let said = literal.satisfies(root, None, &Word { letters, tail });
+                let context = (nodes, samples, i, tail);
+                assert_eq!(said, meaning.satisfies(root, None, i, tail), "{context:?}");
+                continue;
+            }
+            let ends = meaning.ends(root, None, i, tail);
+            for end in i..=letters.len().min(n + 2) {
+                let said = literal.matches(root, None, &letters[i..end]);
+                assert_eq!(said, ends.contains(&end), "{nodes:?} {samples:?} {i} {end}");
+            }
+        }
+    }
+}
+
+#[test]
+fn more_letters_of_the_tail_change_nothing() {
+    for seed in 0..6_000 {
+        let Some((nodes, samples)) = accepted(seed) else {
+            continue;
+        };
+        let root = nodes.len() - 1;
+        let mut short = Meaning::new(&nodes, &samples);
+        let mut long = Meaning::new(&nodes, &samples).with_more_letters(nodes.len());
+        for i in [0, samples.len() / 2, samples.len()] {
+            if nodes[root].sort() == Sort::Sequence {
+                let past = |ends: &[usize]| ends.iter().any(|&end| end > samples.len());
+                let said = past(&short.ends(root, None, i, Tail::Top));
+                assert_eq!(said, past(&long.ends(root, None, i, Tail::Top)));
+                continue;
+            }
+            for tail in TAILS {
+                let said = short.satisfies(root, None, i, tail);
+                assert_eq!(said, long.satisfies(root, None, i, tail));
+            }
+        }
+    }
+}
+
+#[test]
+fn rewriting_keeps_the_meaning() {
+    for seed in 0..20_000 {
+        match (random_case(seed), answer(&random_case(seed))) {
+            (Case::Judge { table, samples, .. }, Answer::Judge(judged, words)) => {
+                assert_eq!(
+                    level_or_refusal_11(&table, &samples, judged.verdict),
+                    judged
+                );
+                if judged.verdict.accepted() {
+                    let row = 65 * (rewritten_count(&table) - 1);
+                    let level = [2, 0, 1].map(|word: usize| words[row + word] & 1 == 1);
+                    let first = level.iter().position(|&holds| holds).unwrap_or(3);
+                    assert_eq!(3 - first, usize::from(judged.level));
+                }
+            }
+            (Case::Ends { table, start, .. }, Answer::Ends(ends, words))
+                if ends.verdict.accepted() =>
+            {
+                let row = 65 * (rewritten_count(&table) - 1);
+                assert_eq!(words[row + start], ends.mask);
+                assert_eq!(words[row + 64] >> start & 1 == 1, ends.top);
+            }
+            _ => {}
+        }
+    }
+}
+
+/// The level without a workspace, or refusal 11 where the judge gave it.
+fn level_or_refusal_11(table: &[u8], samples: &[u64], given: Verdict) -> crate::Judgement {
+    let mut judged = level(table, samples);
+    if given == Verdict::refused(11) {
+        assert!(judged.verdict.accepted());
+        (judged.verdict, judged.level, judged.tested) = (given, 0, false);
+    }
+    judged
+}
+
+/// The rewritten count of an accepted table.
+fn rewritten_count(table: &[u8]) -> usize {
+    checked(table).map_or(0, |nodes| rewritten(&nodes).len())
+}
+
+#[test]
+fn rewriting_keeps_the_meaning_of_every_suffix() {
+    for seed in 0..8_000 {
+        let Some((nodes, samples)) = accepted(seed) else {
+            continue;
+        };
+        let new = rewritten(&nodes);
+        if new.len() > 120 {
+            continue;
+        }
+        let (mut clocked, mut plain) =
+            (Meaning::new(&nodes, &samples), Meaning::new(&new, &samples));
+        let (root, new_root) = (nodes.len() - 1, new.len() - 1);
+        for i in 0..=samples.len() {
+            for tail in TAILS {
+                let said = clocked.satisfies(root, None, i, tail);
+                assert_eq!(said, plain.satisfies(new_root, None, i, tail));
+            }
+            let said = clocked.ends(root, None, i, Tail::Nothing);
+            assert_eq!(said, plain.ends(new_root, None, i, Tail::Nothing));
+        }
+    }
+}
+
+#[test]
+fn rewritten_tables_are_tables_and_stay() {
+    for seed in 0..3_000 {
+        let Some((nodes, _)) = accepted(seed) else {
+            continue;
+        };
+        let once = rewritten(&nodes);
+        if once.len() <= 120 {
+            assert_eq!(check(&table_bytes(&once)), Verdict::ACCEPTED);
+            let mut out = vec![0; 486];
+            let again = rewrite(&table_bytes(&once), &mut out);
+            assert_eq!(again.count, once.len());
+        }
+    }
+}
+
+#[test]
+fn no_bytes_cause_a_panic() {
+    let mut random = Random::new(99);
+    for _ in 0..20_000 {
+        let mut bytes = match random_case(random.next()) {
+            Case::Check { table } | Case::Rewrite { table, .. } => table,
+            Case::Judge { table, .. } | Case::Ends { table, .. } => table,
+            Case::Read { record, .. } => record,
+            Case::Program { input } => input,
+        };
+        for _ in 0..random.below(3) {
+            crate::damage::damage_table(&mut random, &mut bytes);
+        }
+        let samples = vec![random.next(); random.below(70)];
+        let start = random.below(70);
+        let mut words = vec![0; random.below(1000)];
+        check(&bytes);
+        line(&bytes);
+        read(&bytes, &mut words);
+        rewrite(&bytes, &mut [0; 90]);
+        judge(&bytes, &samples, &mut words);
+        match_ends(&bytes, &samples, start, &mut words);
+    }
+}

@@ -1,0 +1,123 @@
+//! Case text, stored sets and shrinking.
+
+use crate::rewriting::rewritten;
+use crate::table::checked;
+use crate::{answer, answer_text, case_text, parse_case, random_case, shrink, stored, Case};
+
+#[test]
+fn case_text_is_read_back() {
+    for seed in 0..4_000 {
+        let case = random_case(seed);
+        let text = case_text(seed, &case);
+        assert!(text.len() <= 8192 && text.is_ascii());
+        assert_eq!(parse_case(&text), Ok((seed, case)));
+    }
+}
+
+#[test]
+fn case_text_as_described() {
+    let (_, case) =
+        parse_case("judge 195 4: 53 56 54 01 00 03 01 00*3 10 00*3 20 01 00 00 / 1*3 a")
+            .expect("a good line");
+    let Case::Judge { samples, words, .. } = &case else {
+        panic!("a case of the judge");
+    };
+    assert_eq!((&samples[..], *words), (&[1, 1, 1, 10][..], 195));
+    let said = answer_text(4, &answer(&case));
+    assert!(said.starts_with("4: level 3 tested yes, words "), "{said}");
+    let empty = Case::Rewrite {
+        table: vec![],
+        bytes: 0,
+    };
+    assert_eq!(case_text(1, &empty), "rewrite 0 1:");
+    let said = answer_text(1, &answer(&empty));
+    assert_eq!(said, "1: refused 1 at 0, count 0, bytes ");
+    let (_, case) = parse_case("read 3 7: 53 56 57 01 00 01 05 00*7").expect("a good line");
+    let said = answer_text(7, &answer(&case));
+    assert_eq!(said, "7: 1 samples, words 5 7 7");
+}
+
+#[test]
+fn malformed_lines_are_told() {
+    let lines = [
+        "",
+        "check",
+        "check 1",
+        "check : 00",
+        "check x: 00",
+        "check 1: 0",
+        "check 1: 000",
+        "check 1: 0G",
+        "check 1: AB",
+        "check 1: 00*9999999999999999999999",
+        "check 1: 00*2049",
+        "read 65 1:",
+        "rewrite 501 1:",
+        "judge 7866 1: / 1",
+        "judge 1 1: 00",
+        "judge 1 1: / 01",
+        "judge 1 1: / 11112222333344445",
+        "judge 1 1: / 1*101",
+        "ends 1 1: / 1",
+        "ends -1 1 1: / 1",
+        "other 1: 00",
+    ];
+    for line in lines {
+        assert!(parse_case(line).is_err(), "{line:?}");
+    }
+}
+
+#[test]
+fn stored_sets_are_moderate_and_whole() {
+    let (cases, answers) = stored(1, 10_000);
+    assert_eq!(
+        (cases.lines().count(), answers.lines().count()),
+        (10_000, 10_000)
+    );
+    assert!(cases.len() < 1_500_000 && answers.len() < 1_500_000);
+    let (mut m_120, mut n_63) = (0, 0);
+    for (line, said) in cases.lines().zip(answers.lines()) {
+        let (label, case) = parse_case(line).expect("a good line");
+        assert_eq!(answer_text(label, &answer(&case)), said);
+        if let Case::Judge { table, samples, .. } | Case::Ends { table, samples, .. } = &case {
+            let nodes = checked(table).unwrap_or_default();
+            m_120 += usize::from(rewritten(&nodes).len() == 120);
+            n_63 += usize::from(samples.len() == 63);
+        }
+    }
+    assert!(m_120 >= 2 && n_63 >= 5, "{m_120} {n_63}");
+}
+
+#[test]
+fn shrinking_finds_a_small_case() {
+    let has_until = |case: &Case| match case {
+        Case::Judge { table, samples, .. } => {
+            let judged = crate::level(table, samples);
+            let accepted = judged.verdict.accepted() && judged.level == 0;
+            let until = table[6.min(table.len())..]
+                .chunks(4)
+                .any(|node| node[0] == 39);
+            accepted && until
+        }
+        _ => false,
+    };
+    let mut shrunk = 0;
+    for seed in 0..400 {
+        let case = random_case(seed);
+        if has_until(&case) {
+            let small = shrink(case, &mut |case| has_until(case));
+            let Case::Judge {
+                table,
+                samples,
+                words,
+            } = &small
+            else {
+                panic!("still a case of the judge");
+            };
+            assert!(table.len() <= 6 + 4 * 7, "{small:?}");
+            assert!(samples.len() <= 1 && *words == 0, "{small:?}");
+            shrunk += 1;
+        }
+    }
+    assert!(shrunk > 3, "{shrunk}");
+}
