@@ -1,0 +1,103 @@
+//! Tables made node by node. Each function adds a node and answers its index.
+
+#[derive(Default)]
+pub struct Nodes(Vec<[u8; 4]>);
+
+impl Nodes {
+    fn add(&mut self, op: u8, x: u8, y: u8) -> u8 {
+        self.0.push([op, x, y, 0]);
+        u8::try_from(self.0.len() - 1).expect("at most 120 nodes")
+    }
+
+    pub fn signal(&mut self, s: u8) -> u8 {
+        self.add(1, s, 0)
+    }
+
+    pub fn boolean_not(&mut self, b: u8) -> u8 {
+        self.add(2, b, 0)
+    }
+
+    pub fn boolean_and(&mut self, a: u8, b: u8) -> u8 {
+        self.add(3, a, b)
+    }
+
+    pub fn boolean_or(&mut self, a: u8, b: u8) -> u8 {
+        self.add(4, a, b)
+    }
+
+    pub fn letter(&mut self, b: u8) -> u8 {
+        self.add(16, b, 0)
+    }
+
+    pub fn then(&mut self, a: u8, b: u8) -> u8 {
+        self.add(17, a, b)
+    }
+
+    pub fn fused(&mut self, a: u8, b: u8) -> u8 {
+        self.add(18, a, b)
+    }
+
+    pub fn either(&mut self, a: u8, b: u8) -> u8 {
+        self.add(19, a, b)
+    }
+
+    pub fn empty(&mut self, a: u8) -> u8 {
+        self.add(20, a, 0)
+    }
+
+    pub fn repeat(&mut self, a: u8) -> u8 {
+        self.add(21, a, 0)
+    }
+
+    pub fn clocked_sequence(&mut self, c: u8, a: u8) -> u8 {
+        self.add(22, c, a)
+    }
+
+    pub fn strong(&mut self, a: u8) -> u8 {
+        self.add(32, a, 0)
+    }
+
+    pub fn weak(&mut self, a: u8) -> u8 {
+        self.add(33, a, 0)
+    }
+
+    pub fn not(&mut self, p: u8) -> u8 {
+        self.add(34, p, 0)
+    }
+
+    pub fn or(&mut self, p: u8, q: u8) -> u8 {
+        self.add(35, p, q)
+    }
+
+    pub fn and(&mut self, p: u8, q: u8) -> u8 {
+        self.add(36, p, q)
+    }
+
+    pub fn implies(&mut self, a: u8, p: u8) -> u8 {
+        self.add(37, a, p)
+    }
+
+    pub fn nexttime(&mut self, p: u8) -> u8 {
+        self.add(38, p, 0)
+    }
+
+    pub fn until(&mut self, p: u8, q: u8) -> u8 {
+        self.add(39, p, q)
+    }
+
+    pub fn clocked(&mut self, c: u8, p: u8) -> u8 {
+        self.add(40, c, p)
+    }
+
+    pub fn len(&self) -> usize {
+        self.0.len()
+    }
+
+    /// The table's bytes; the last node is the root.
+    pub fn table(&self) -> Vec<u8> {
+        let count = u8::try_from(self.0.len()).expect("at most 120 nodes");
+        let mut bytes = vec![b'S', b'V', b'T', 1, 0, count];
+        bytes.extend(self.0.concat());
+        bytes
+    }
+}

@@ -1,0 +1,103 @@
+//! Checking a table: refusals 1 to 9, the first that applies.
+use crate::answers::Verdict;
+use crate::operators::*;
+use crate::tops::{flags, hollow};
+
+/// The bytes before the nodes.
+pub const HEADING: usize = 6;
+
+/// The nodes of a table, at most.
+pub const MOST: usize = 120;
+
+/// Refusals 1 to 9; number and node 0 where none applies.
+pub fn check(table: &[u8]) -> Verdict {
+    match nodes_of(table).and_then(check_nodes) {
+        Ok(()) => Verdict::default(),
+        Err(refusal) => refusal,
+    }
+}
+
+/// The nodes of a table that gets none of 1 to 9.
+pub fn checked(table: &[u8]) -> Result<&[[u8; 4]], Verdict> {
+    let nodes = nodes_of(table)?;
+    check_nodes(nodes)?;
+    Ok(nodes)
+}
+
+/// Refusals 1 to 5.
+fn nodes_of(table: &[u8]) -> Result<&[[u8; 4]], Verdict> {
+    let Some((heading, rest)) = table.split_first_chunk::<HEADING>() else {
+        return Err(Verdict::refusal(1));
+    };
+    if !heading.starts_with(b"SVT") {
+        return Err(Verdict::refusal(2));
+    }
+    if heading[3..5] != [1, 0] {
+        return Err(Verdict::refusal(3));
+    }
+    let count = usize::from(heading[5]);
+    if count == 0 || count > MOST {
+        return Err(Verdict::refusal(4));
+    }
+    if rest.len() != 4 * count {
+        return Err(Verdict::refusal(5));
+    }
+    Ok(rest.as_chunks().0)
+}
+
+/// What the pass over the nodes has found so far. A byte indexes 256 places, so no index has a bound to check.
+struct Found {
+    sorts: [u8; 256],
+    places: [u8; 256],
+    flags: [u8; 256],
+}
+
+/// Refusals 6 to 9: one pass that asks 6 and gathers what 7 and 9 need, since 6 is asked of all nodes first.
+fn check_nodes(nodes: &[[u8; 4]]) -> Result<(), Verdict> {
+    let mut found = Found {
+        sorts: [NONE; 256],
+        places: [0; 256],
+        flags: [0; 256],
+    };
+    let mut first_hollow = None;
+    for (k, &[op, x, y, fourth]) in nodes.iter().enumerate() {
+        let operator = OPERATORS[usize::from(op)];
+        if !fits(&found.sorts, operator, x, y) || fourth != 0 {
+            return Err(Verdict::at(6, k));
+        }
+        let (x, y) = (usize::from(x), usize::from(y));
+        found.sorts[k] = operator.own;
+        found.places[x] += u8::from(operator.x >= SEQUENCE);
+        found.places[y] += u8::from(operator.y >= SEQUENCE);
+        found.flags[k] = flags(op, found.flags[x], found.flags[y]);
+        if first_hollow.is_none() && hollow(op, found.flags[x]) {
+            first_hollow = Some(k);
+        }
+    }
+    if let Some(k) = first_astray(&found, nodes.len()) {
+        return Err(Verdict::at(7, k));
+    }
+    if found.sorts[nodes.len() - 1] == BOOLEAN {
+        return Err(Verdict::refusal(8));
+    }
+    first_hollow.map_or(Ok(()), |k| Err(Verdict::at(9, k)))
+}
+
+/// Whether operator and operands are in order. A node that is not below has no sort yet, so its sort is not the one asked for.
+fn fits(sorts: &[u8; 256], operator: Operator, x: u8, y: u8) -> bool {
+    let serves = |sort: u8, limit: u8, v: u8| match sort {
+        NONE => v < limit,
+        _ => sorts[usize::from(v)] == sort,
+    };
+    operator.own != NONE && serves(operator.x, operator.limit, x) && serves(operator.y, 1, y)
+}
+
+/// The lowest sequence or property, not the root, in other than one operand place.
+fn first_astray(found: &Found, count: usize) -> Option<usize> {
+    let sorts = &found.sorts[..count - 1];
+    let places = &found.places[..count - 1];
+    sorts
+        .iter()
+        .zip(places)
+        .position(|(&sort, &places)| sort >= SEQUENCE && places != 1)
+}

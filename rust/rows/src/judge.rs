@@ -1,0 +1,103 @@
+//! The judge and match ends: all refusals before the first write, then the rows, then what is read off them.
+use crate::answers::{Judgement, MatchEnds, Verdict};
+use crate::check::{checked, HEADING, MOST};
+use crate::fill::fill;
+use crate::operators::{OPERATORS, PROPERTY, SEQUENCE};
+use crate::rewrite::{plan, write};
+use crate::{LONGEST, SHARE, TOP};
+
+/// The bytes of the longest rewritten table.
+const ROOM: usize = HEADING + 4 * MOST;
+
+/// What a call is given besides the table: the sort that the root must not have, the number of samples, the start, and the words of the workspace.
+struct Call {
+    wrong: u8,
+    samples: usize,
+    start: usize,
+    words: usize,
+}
+
+/// Refusals 1 to 9, 12, 13, 10, 14 and 11; with none, the rewritten table in `new`, and its count.
+fn settle(table: &[u8], call: Call, new: &mut [u8; ROOM]) -> Result<usize, Verdict> {
+    let nodes = checked(table)?;
+    let root = nodes[nodes.len() - 1][0];
+    if OPERATORS[usize::from(root)].own == call.wrong {
+        return Err(Verdict::refusal(12));
+    }
+    let plan = plan(nodes);
+    let refusals = [
+        (plan.all > MOST, 13),
+        (call.samples > LONGEST, 10),
+        (call.start > call.samples, 14),
+        (call.words < SHARE * plan.all, 11),
+    ];
+    if let Some(&(_, number)) = refusals.iter().find(|(applies, _)| *applies) {
+        return Err(Verdict::refusal(number));
+    }
+    write(nodes, &plan, &mut new[..HEADING + 4 * plan.all]);
+    Ok(plan.all)
+}
+
+/// The level at which the property at the table's root holds on the samples, and whether it was tested; leaves the rows in the workspace.
+pub fn judge(table: &[u8], samples: &[u64], workspace: &mut [u64]) -> Judgement {
+    let mut new = [0; ROOM];
+    let call = Call {
+        wrong: SEQUENCE,
+        samples: samples.len(),
+        start: 0,
+        words: workspace.len(),
+    };
+    let m = match settle(table, call, &mut new) {
+        Ok(m) => m,
+        Err(verdict) => {
+            return Judgement {
+                verdict,
+                ..Judgement::default()
+            }
+        }
+    };
+    let rows = &mut workspace.as_chunks_mut().0[..m];
+    let tested = fill(&new[HEADING..].as_chunks().0[..m], samples, rows);
+    let [neutral, weak, strong] = [0, 1, 2].map(|word| rows[m - 1][word] & 1 == 1);
+    Judgement {
+        verdict: Verdict::default(),
+        level: level(neutral, weak, strong),
+        tested,
+    }
+}
+
+fn level(neutral: bool, weak: bool, strong: bool) -> u8 {
+    match (strong, neutral, weak) {
+        (true, _, _) => 3,
+        (_, true, _) => 2,
+        (_, _, true) => 1,
+        _ => 0,
+    }
+}
+
+/// The match ends of the sequence at the table's root, from a start; leaves the rows in the workspace.
+pub fn match_ends(table: &[u8], samples: &[u64], start: usize, workspace: &mut [u64]) -> MatchEnds {
+    let mut new = [0; ROOM];
+    let call = Call {
+        wrong: PROPERTY,
+        samples: samples.len(),
+        start,
+        words: workspace.len(),
+    };
+    let m = match settle(table, call, &mut new) {
+        Ok(m) => m,
+        Err(verdict) => {
+            return MatchEnds {
+                verdict,
+                ..MatchEnds::default()
+            }
+        }
+    };
+    let rows = &mut workspace.as_chunks_mut().0[..m];
+    fill(&new[HEADING..].as_chunks().0[..m], samples, rows);
+    MatchEnds {
+        verdict: Verdict::default(),
+        mask: rows[m - 1][start],
+        top: rows[m - 1][TOP] >> start & 1 == 1,
+    }
+}
