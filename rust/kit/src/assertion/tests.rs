@@ -1,0 +1,109 @@
+use super::*;
+use crate::testing::table;
+
+fn tidied(nodes: &[[u8; 3]]) -> Vec<u8> {
+    Assertion::of_table(&table(nodes)).unwrap().tidy().table()
+}
+
+#[test]
+fn the_pages_tables_are_in_the_kits_order() {
+    // strong(a), in the page's hex
+    let page = [
+        0x53, 0x56, 0x54, 1, 0, 3, 1, 0, 0, 0, 0x10, 0, 0, 0, 0x20, 1, 0, 0,
+    ];
+    let strong = Assertion::of_table(&page).unwrap();
+    assert_eq!(strong.tidy().table(), page);
+    // @(c) strong(a)
+    let clocked = [[1, 0, 0], [1, 2, 0], [16, 0, 0], [32, 2, 0], [40, 1, 3]];
+    assert_eq!(tidied(&clocked), table(&clocked));
+}
+
+#[test]
+fn tidying_shares_booleans_and_drops_the_unused() {
+    // strong(a ##1 a) with two nodes for a, and an unused constant
+    let given = [
+        [1, 0, 0],
+        [16, 0, 0],
+        [0, 1, 0],
+        [1, 0, 0],
+        [16, 3, 0],
+        [17, 1, 4],
+        [32, 5, 0],
+    ];
+    let wanted = [[1, 0, 0], [16, 0, 0], [16, 0, 0], [17, 1, 2], [32, 3, 0]];
+    assert_eq!(tidied(&given), table(&wanted));
+    assert_eq!(tidied(&wanted), table(&wanted));
+}
+
+#[test]
+fn a_part_stands_under_the_nearest_clock() {
+    // @(c) (strong(a) until @(d) weak(b)), with a, b, c, d signals 0 to 3
+    let nodes = [
+        [1, 0, 0],
+        [1, 1, 0],
+        [1, 2, 0],
+        [1, 3, 0],
+        [16, 0, 0],
+        [32, 4, 0],
+        [16, 1, 0],
+        [33, 6, 0],
+        [40, 3, 7],
+        [39, 5, 8],
+        [40, 2, 9],
+    ];
+    let whole = Assertion::of_table(&table(&nodes)).unwrap();
+    assert_eq!(whole.clocks(), [3, 2]);
+    assert_eq!(
+        [5, 7, 8, 9, 10].map(|k| whole.clock(k)),
+        [Some(2), Some(3), Some(2), Some(2), None]
+    );
+    assert_eq!(whole.clock(4), Some(2));
+    let strong = [[1, 0, 0], [1, 2, 0], [16, 0, 0], [32, 2, 0], [40, 1, 3]];
+    assert_eq!(whole.part(5).table(), table(&strong));
+    let letter = [[1, 1, 0], [1, 3, 0], [16, 0, 0], [22, 1, 2]];
+    assert_eq!(whole.part(6).table(), table(&letter));
+    assert_eq!(whole.part(10).table(), whole.tidy().table());
+    assert_eq!(
+        whole.letter(2).table(),
+        table(&[[1, 2, 0], [16, 0, 0], [32, 1, 0]])
+    );
+    assert_eq!(whole.signals(), [0, 1, 2, 3]);
+}
+
+#[test]
+fn a_clock_on_the_left_of_an_implication_is_not_the_right_sides() {
+    // (@(c) a) |-> strong(b)
+    let nodes = [
+        [1, 0, 0],
+        [1, 1, 0],
+        [1, 2, 0],
+        [16, 0, 0],
+        [22, 2, 3],
+        [16, 1, 0],
+        [32, 5, 0],
+        [37, 4, 6],
+    ];
+    let whole = Assertion::of_table(&table(&nodes)).unwrap();
+    assert_eq!(
+        [3, 4, 5, 6].map(|k| whole.clock(k)),
+        [Some(2), None, None, None]
+    );
+}
+
+#[test]
+fn a_refused_table_is_no_assertion() {
+    let refusal = Assertion::of_table(&table(&[[1, 0, 0]])).unwrap_err();
+    assert_eq!(refusal.number(), 8);
+}
+
+#[test]
+fn booleans_that_share_and_share_again_are_copied_once_each() {
+    // x0 = signal 0, then x_k+1 = x_k & x_k: unfolded, the last would have 2 to the 100 letters
+    let mut nodes = vec![[1, 0, 0]];
+    nodes.extend((0..100).map(|below| [3, below, below]));
+    nodes.extend([[16, 100, 0], [32, 101, 0]]);
+    let whole = Assertion::of_table(&table(&nodes)).unwrap();
+    assert_eq!(whole.tidy().table(), table(&nodes));
+    assert_eq!(whole.letter(100).table(), table(&nodes));
+    assert_eq!(whole.signals(), [0]);
+}

@@ -1,0 +1,164 @@
+//! Judging many records at once.
+use super::find::Place;
+use crate::files;
+use std::fs::File;
+use std::io::Read;
+use std::iter::Zip;
+use std::num::NonZero;
+use std::path::Path;
+use std::slice::{Chunks, ChunksMut};
+use std::sync::atomic::{AtomicUsize, Ordering};
+use std::sync::mpsc::{channel, RecvTimeoutError};
+use std::sync::{Mutex, PoisonError};
+use std::thread;
+use std::time::{Duration, Instant};
+use xistomar::{Judge, Judgement, Refusal, LONGEST};
+
+/// The records that a thread takes at once.
+const PART: usize = 64;
+
+/// How often a watcher is told.
+const TENTH: Duration = Duration::from_millis(100);
+
+/// What became of a record.
+#[derive(Clone, Debug, PartialEq, Eq)]
+pub enum Answer {
+    /// The judge's answer.
+    Judged(Judgement),
+    /// The record is refused.
+    Refused(Refusal),
+    /// The file cannot be read, and why.
+    Unreadable(String),
+}
+
+/// What became of all records.
+#[derive(Debug)]
+pub struct Run<'a> {
+    /// An answer for each place, in their order.
+    pub answers: Vec<Answer>,
+    /// The record that took the longest to judge, reading not counted.
+    pub slowest: Option<(Duration, &'a Path)>,
+}
+
+/// Places that are not yet taken by a thread, with room for their answers.
+type Parts<'a, 'b> = Zip<Chunks<'a, Place>, ChunksMut<'b, Answer>>;
+
+/// What the threads share.
+struct Shared<'a, 'b> {
+    table: &'a [u8],
+    parts: Mutex<Parts<'a, 'b>>,
+    done: AtomicUsize,
+    slowest: Mutex<Option<(Duration, &'a Path)>>,
+}
+
+/// Judges the record at each place by a table that is not refused, with as many threads as run at
+/// once here. While they work, `watch` is told every tenth of a second how many are done.
+pub fn judge_all<'a>(
+    table: &'a [u8],
+    places: &'a [Place],
+    watch: &mut dyn FnMut(usize),
+) -> Run<'a> {
+    let mut answers = Vec::new();
+    answers.resize_with(places.len(), || Answer::Unreadable(String::new()));
+    let shared = Shared {
+        table,
+        parts: Mutex::new(places.chunks(PART).zip(answers.chunks_mut(PART))),
+        done: AtomicUsize::new(0),
+        slowest: Mutex::new(None),
+    };
+    let most = thread::available_parallelism().map_or(1, NonZero::get);
+    run_threads(&shared, most.min(places.len().div_ceil(PART)), watch);
+    let slowest = shared.slowest.into_inner();
+    let slowest = slowest.unwrap_or_else(PoisonError::into_inner);
+    Run { answers, slowest }
+}
+
+/// Runs the threads to their end. Where none can be started the work is done here.
+fn run_threads(shared: &Shared, threads: usize, watch: &mut dyn FnMut(usize)) {
+    thread::scope(|scope| {
+        let (working, ended) = channel::<()>();
+        let mut started = 0;
+        for _ in 0..threads {
+            let working = working.clone();
+            let work = move || {
+                Worker::new(shared).work();
+                drop(working);
+            };
+            started += usize::from(thread::Builder::new().spawn_scoped(scope, work).is_ok());
+        }
+        if started == 0 {
+            Worker::new(shared).work();
+        }
+        drop(working);
+        while let Err(RecvTimeoutError::Timeout) = ended.recv_timeout(TENTH) {
+            watch(shared.done.load(Ordering::Relaxed));
+        }
+    });
+}
+
+/// One thread's judge, with the memory that it reads records into.
+struct Worker<'s, 'a, 'b> {
+    shared: &'s Shared<'a, 'b>,
+    judge: Judge,
+    bytes: Vec<u8>,
+    samples: [u64; LONGEST],
+    slowest: Option<(Duration, &'a Path)>,
+}
+
+impl<'s, 'a, 'b> Worker<'s, 'a, 'b> {
+    fn new(shared: &'s Shared<'a, 'b>) -> Worker<'s, 'a, 'b> {
+        Worker {
+            shared,
+            judge: Judge::new(),
+            bytes: Vec::with_capacity(2 * files::MOST as usize),
+            samples: [0; LONGEST],
+            slowest: None,
+        }
+    }
+
+    /// Takes parts until there are none left.
+    fn work(mut self) {
+        while let Some((places, answers)) = self.next_part() {
+            for (place, answer) in places.iter().zip(answers) {
+                *answer = self.answer(place);
+                self.shared.done.fetch_add(1, Ordering::Relaxed);
+            }
+        }
+        let slowest = self.shared.slowest.lock();
+        let mut slowest = slowest.unwrap_or_else(PoisonError::into_inner);
+        *slowest = (*slowest).max(self.slowest);
+    }
+
+    fn next_part(&self) -> Option<(&'a [Place], &'b mut [Answer])> {
+        let parts = self.shared.parts.lock();
+        parts.unwrap_or_else(PoisonError::into_inner).next()
+    }
+
+    fn answer(&mut self, place: &'a Place) -> Answer {
+        if let Some(why) = &place.wrong {
+            return Answer::Unreadable(why.clone());
+        }
+        self.bytes.clear();
+        let file = File::open(&place.path);
+        let read = file.and_then(|file| file.take(files::MOST).read_to_end(&mut self.bytes));
+        if let Err(error) = read {
+            return Answer::Unreadable(files::why(&error));
+        }
+        let begun = Instant::now();
+        match self.judge() {
+            Err(refusal) => Answer::Refused(refusal),
+            Ok(judgement) => {
+                let time = (begun.elapsed(), place.path.as_path());
+                self.slowest = self.slowest.max(Some(time));
+                Answer::Judged(judgement)
+            }
+        }
+    }
+
+    /// Judges the record that was read.
+    fn judge(&mut self) -> Result<Judgement, Refusal> {
+        let count = xistomar::read(&self.bytes, &mut self.samples)?;
+        let samples = self.samples.get(..count).unwrap_or_default();
+        self.judge.judge(self.shared.table, samples)
+    }
+}

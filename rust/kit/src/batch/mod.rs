@@ -1,0 +1,10 @@
+//! Many records, judged by one table.
+mod find;
+mod judging;
+mod progress;
+mod report;
+
+pub use find::{find, Found};
+pub use judging::{judge_all, Answer, Run};
+pub use progress::Progress;
+pub use report::{list, names, Report};

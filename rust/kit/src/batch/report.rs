@@ -1,0 +1,181 @@
+//! The report on many records.
+use super::{Answer, Found, Run};
+use crate::files::shown;
+use crate::refusals;
+use crate::required::Required;
+use std::collections::BTreeMap;
+use std::time::Duration;
+use xistomar::{Judgement, Level};
+
+/// What is reported.
+pub struct Report<'a> {
+    /// What was found.
+    pub found: &'a Found,
+    /// What became of it.
+    pub run: &'a Run<'a>,
+    /// What is required of the records.
+    pub required: Required,
+    /// The time for all, finding them included.
+    pub whole: Duration,
+}
+
+impl Report<'_> {
+    /// The counts as an aligned table, and then what else there is to say of all records.
+    pub fn table(&self) -> String {
+        let mut rows = vec![self.held()];
+        rows.extend([Level::Strong, Level::Neutral].map(|level| self.level("  level", level)));
+        rows.push(self.level("open, level", Level::Weak));
+        rows.push(self.level("broken, level", Level::Broken));
+        rows.extend(self.refused());
+        let unreadable = self.count(|answer| matches!(answer, Answer::Unreadable(_)));
+        rows.push(row("unreadable", unreadable, ""));
+        rows.push(row("total", self.run.answers.len(), ""));
+        rows.push(row("", "", ""));
+        rows.extend(self.remarks());
+        aligned(&rows)
+    }
+
+    fn count(&self, wanted: impl Fn(&Answer) -> bool) -> usize {
+        let answers = self.run.answers.iter();
+        answers.filter(|answer| wanted(answer)).count()
+    }
+
+    fn judged(&self, wanted: impl Fn(&Judgement) -> bool) -> usize {
+        self.count(|answer| matches!(answer, Answer::Judged(judgement) if wanted(judgement)))
+    }
+
+    fn held(&self) -> Row {
+        row("held", self.judged(|it| it.level >= Level::Neutral), "")
+    }
+
+    fn level(&self, label: &str, level: Level) -> Row {
+        let label = format!("{label} {}", level.number());
+        row(&label, self.judged(|it| it.level == level), level.meaning())
+    }
+
+    /// A row for all refused records, and one for each number that was given.
+    fn refused(&self) -> Vec<Row> {
+        let mut numbers = BTreeMap::new();
+        for answer in &self.run.answers {
+            if let Answer::Refused(refusal) = answer {
+                let (count, _) = numbers
+                    .entry(refusal.number())
+                    .or_insert((0, refusal.reason()));
+                *count += 1;
+            }
+        }
+        let all: usize = numbers.values().map(|(count, _)| count).sum();
+        let mut rows = vec![row("refused", all, "")];
+        for (number, (count, reason)) in numbers {
+            rows.push(row(&format!("  refused {number}"), count, reason));
+        }
+        rows
+    }
+
+    /// The rows below the counts.
+    fn remarks(&self) -> Vec<Row> {
+        let all = self.run.answers.len();
+        let judged = self.judged(|_| true);
+        let mut rows = Vec::new();
+        let untested = self.judged(|it| !it.tested);
+        let words = format!("of {judged} judged: no |-> was put to the test");
+        rows.push(row("not tested", untested, &words));
+        if self.required.asks() {
+            let reached = self.judged(|it| self.required.reached(*it));
+            rows.push(row("reached", reached, &self.required_words(all)));
+        }
+        if self.found.others > 0 {
+            let words = "other files, and links to folders";
+            rows.push(row("passed over", self.found.others, words));
+        }
+        if let Some((time, path)) = self.run.slowest {
+            rows.push(row("slowest", time_words(time), &shown(path)));
+        }
+        let speed = all as f64 / self.whole.as_secs_f64().max(1e-9);
+        rows.push(row("speed", format!("{speed:.0}"), "records a second"));
+        rows.push(row("time", time_words(self.whole), "in all"));
+        rows
+    }
+
+    /// What is required, in words.
+    fn required_words(&self, all: usize) -> String {
+        match (self.required.level, self.required.tested) {
+            (Some(level), true) => format!("of {all}: level {level} or more, and tested"),
+            (Some(level), false) => format!("of {all}: level {level} or more"),
+            _ => format!("of {all}: tested"),
+        }
+    }
+}
+
+/// A label, a number with its unit, and words for it.
+type Row = (String, String, String);
+
+fn row(label: &str, number: impl ToString, words: &str) -> Row {
+    (label.to_string(), number.to_string(), words.to_string())
+}
+
+/// The rows under each other, the numbers to the right of their column.
+fn aligned(rows: &[Row]) -> String {
+    let width = |text: &String| text.chars().count();
+    let labels = rows.iter().map(|(label, ..)| width(label)).max();
+    let numbers = rows.iter().map(|(_, number, _)| width(number)).max();
+    let (labels, numbers) = (labels.unwrap_or_default(), numbers.unwrap_or_default());
+    let mut lines = String::new();
+    for (label, number, words) in rows {
+        let line = format!("{label:<labels$}  {number:>numbers$}  {words}");
+        lines.push_str(line.trim_end());
+        lines.push('\n');
+    }
+    lines
+}
+
+/// A time in the unit that suits it.
+fn time_words(time: Duration) -> String {
+    match time.as_secs_f64() {
+        short if short < 1e-3 => format!("{:.1} µs", short * 1e6),
+        short if short < 1.0 => format!("{:.1} ms", short * 1e3),
+        long => format!("{long:.2} s"),
+    }
+}
+
+/// A line for each record: its name and what became of it.
+pub fn list<'a>(found: &'a Found, run: &'a Run) -> impl Iterator<Item = String> + 'a {
+    let pairs = found.places.iter().zip(&run.answers);
+    pairs.map(|(place, answer)| {
+        let name = shown(&place.path);
+        match answer {
+            Answer::Judged(judgement) => format!("{name}: {judgement}\n"),
+            Answer::Refused(refusal) => format!("{name}: {}\n", refusals::line(*refusal)),
+            Answer::Unreadable(why) => format!("{name}: unreadable: {why}\n"),
+        }
+    })
+}
+
+/// The broken records that are named, at most. The refused and the unreadable are all named.
+const NAMED: usize = 20;
+
+/// A line for each of the first broken records, for each that is refused, and for each that cannot be
+/// read.
+pub fn names<'a>(found: &'a Found, run: &'a Run) -> impl Iterator<Item = String> + 'a {
+    let pairs = || found.places.iter().zip(&run.answers);
+    let broken = || {
+        let level = |answer: &Answer| match answer {
+            Answer::Judged(judgement) => Some(judgement.level),
+            _ => None,
+        };
+        pairs().filter(move |(_, answer)| level(answer) == Some(Level::Broken))
+    };
+    let more = broken().count().saturating_sub(NAMED);
+    let more = (more > 0).then(|| format!("broken  and {more} more, which --list names\n"));
+    let broken = broken().take(NAMED);
+    let broken = broken.map(|(place, _)| format!("broken  {}\n", shown(&place.path)));
+    let refused = pairs().filter_map(|(place, answer)| match answer {
+        Answer::Refused(it) => Some(format!("refused {}  {}\n", it.number(), shown(&place.path))),
+        _ => None,
+    });
+    let unreadable = pairs().filter_map(|(place, answer)| match answer {
+        Answer::Unreadable(why) => Some(format!("unreadable  {}: {why}\n", shown(&place.path))),
+        _ => None,
+    });
+    broken.chain(more).chain(refused).chain(unreadable)
+}

@@ -1,0 +1,124 @@
+//! `kit batch`: the verdict on many records.
+use super::Command;
+use crate::batch::{self, Answer, Progress, Report, Run};
+use crate::console::Console;
+use crate::failure::{Failure, Outcome, BELOW, DONE, REFUSED};
+use crate::files::shown;
+use crate::options::{Options, Spec};
+use crate::refusals;
+use crate::required::Required;
+use crate::source;
+use std::path::{Path, PathBuf};
+use std::time::Instant;
+use xistomar::Judge;
+
+/// The command.
+pub const COMMAND: Command = Command {
+    name: "batch",
+    help: HELP,
+    spec: Spec {
+        values: &["--require"],
+        flags: &["--tested", "--list"],
+    },
+    run,
+};
+
+fn run(options: &Options, console: &mut Console) -> Outcome {
+    let begun = Instant::now();
+    let required = Required::of(options)?;
+    let (path, given) = given(options)?;
+    let table = source::table(path, None)?.table;
+    let judged = Judge::new().judge(&table, &[]);
+    judged.map_err(|refusal| refusals::failure(path, refusal))?;
+    let found = batch::find(given);
+    if found.places.is_empty() {
+        return Err(no_record(given, found.others));
+    }
+    let mut progress = Progress::begin(console, found.places.len());
+    let run = batch::judge_all(&table, &found.places, &mut |done| progress.draw(done));
+    progress.erase();
+    let whole = begun.elapsed();
+    if options.flag("--list") {
+        console.say_all(batch::list(&found, &run))?;
+        console.say("\n")?;
+    }
+    let report = Report {
+        found: &found,
+        run: &run,
+        required,
+        whole,
+    };
+    console.say(&report.table())?;
+    let mut names = batch::names(&found, &run).peekable();
+    if names.peek().is_some() {
+        console.say("\n")?;
+        console.say_all(names)?;
+    }
+    status(&run, required)
+}
+
+/// The table, and the folders and records.
+fn given(options: &Options) -> Result<(&Path, &[PathBuf]), Failure> {
+    match options.all_files() {
+        [table, records @ ..] if !records.is_empty() => Ok((table, records)),
+        _ => {
+            let words = "a TABLE, and a folder of records or some records, must be given";
+            Err(Failure::Usage(words.to_string()))
+        }
+    }
+}
+
+fn no_record(given: &[PathBuf], others: usize) -> Failure {
+    let folders: Vec<String> = given.iter().map(|path| shown(path)).collect();
+    let folders = folders.join(", ");
+    let words = format!("{folders}: no file below ends in .svw; files passed over: {others}");
+    Failure::Failed(words)
+}
+
+/// A file that cannot be read weighs more than a refused one, and that more than a low level.
+fn status(run: &Run, required: Required) -> Outcome {
+    let count =
+        |wanted: &dyn Fn(&Answer) -> bool| run.answers.iter().filter(|it| wanted(it)).count();
+    let unreadable = count(&|answer| matches!(answer, Answer::Unreadable(_)));
+    if unreadable > 0 {
+        let all = run.answers.len();
+        let words =
+            format!("{unreadable} of {all} could not be read: the report ends with their names");
+        Err(Failure::Failed(words))
+    } else if count(&|answer| matches!(answer, Answer::Refused(_))) > 0 {
+        Ok(REFUSED)
+    } else if count(&|it| matches!(it, Answer::Judged(it) if !required.reached(*it))) > 0 {
+        Ok(BELOW)
+    } else {
+        Ok(DONE)
+    }
+}
+
+const HELP: &str = "\
+kit batch TABLE DIR|FILES.. [--require N] [--tested] [--list]
+
+Judges many records by one table and reports how many held, are open or broken, are refused, or
+could not be read. Of a folder every file below it whose name ends in .svw is judged, by name; links
+to folders are not entered. A torn or unreadable file is counted and named, and the run goes on; of
+the broken records the first twenty are named.
+
+While it runs, a terminal shows a bar on standard error. The slowest record is the one that took
+longest to judge, reading not counted.
+
+  TABLE             a .svt file, or a text whose name ends in .txt
+  DIR|FILES..       folders of records, and records
+  --require N       the level of every record must be N or higher: 0, 1, 2 or 3
+  --tested          every record must test the assertion: the left side of some |-> must match
+  --list            before the report, a line for each record in order and then an empty one:
+                    run/0001.svw: level 2 tested yes
+                    run/0002.svw: refused 5 at 0
+                    run/0003.svw: unreadable: there is no such file
+
+Example, for every record of tonight's run, none of them broken:
+
+  $ kit batch flush.svt run/ --require 1
+
+The status is 4 where a file or a folder could not be read, or else 3 where a record is refused (or
+the table, and then nothing is judged), or else 1 where a record does not reach what --require and
+--tested ask, or else 0. It is 2 for a wrong command line.
+";

@@ -1,0 +1,81 @@
+//! `kit picture`: the verdict as a picture.
+use super::Command;
+use crate::console::Console;
+use crate::failure::{Outcome, DONE};
+use crate::files;
+use crate::options::{Options, Spec};
+use crate::picture::{self, Scene};
+use crate::refusals;
+use crate::source;
+use crate::verdict::{self, Refused};
+use crate::words;
+use std::path::Path;
+
+/// The command.
+pub const COMMAND: Command = Command {
+    name: "picture",
+    help: HELP,
+    spec: Spec {
+        values: &["-o", "--names"],
+        flags: &[],
+    },
+    run,
+};
+
+fn run(options: &Options, console: &mut Console) -> Outcome {
+    let [table, record] = options.files(["TABLE", "RECORD"])?;
+    let output = options.output()?;
+    let names = options.value("--names").map(Path::new);
+    let source = source::table(table, names)?;
+    let bytes = files::read(record)?;
+    let refused = |refused: Refused| {
+        let path = match refused {
+            Refused::Table(_) => table,
+            Refused::Record(_) => record,
+        };
+        refusals::failure(path, refused.refusal())
+    };
+    let samples = verdict::samples(&source.table, &bytes).map_err(refused)?;
+    let scene = Scene::of(&source.table, &source.names, &samples)
+        .map_err(|refusal| refused(Refused::Table(refusal)))?;
+    let inputs = [Some(table.as_path()), Some(record), names];
+    let inputs: Vec<&Path> = inputs.into_iter().flatten().collect();
+    files::write(&output, picture::draw(&scene).as_bytes(), &inputs)?;
+    let (shown, line) = (files::shown(&output), scene.verdict.judgement);
+    let count = words::count(samples.len(), "sample");
+    console.say(&format!("{shown}: {line}, {count}\n"))?;
+    Ok(DONE)
+}
+
+const HELP: &str = "\
+kit picture TABLE RECORD [--names FILE.txt] -o FILE.svg
+
+Draws the verdict on a record as an SVG picture, and prints its level in one line. Any browser opens
+the picture; it has no scripts and needs no other file.
+
+From top to bottom it shows
+
+  the verdict       the program's line, what the level means, and the assertion
+  the samples       a column each, from 0, and a dashed region for what comes after the record
+  the ticks         a row for each clock of the assertion, with a mark where it ticks
+  the signals       a waveform each: all that have a name or that the assertion asks about
+  the levels        the level at the start and after each sample, as a bar with its digit
+  the legend        what the bars and the marks mean
+
+A flag marks the sample at which the level closed: a 3 or a 0 stays, whatever comes next. Without a
+flag the level is open at the end of the record.
+
+  TABLE             a .svt file, or a text whose name ends in .txt
+  RECORD            a .svw file of at most 63 samples
+  --names FILE.txt  a text that declares the signals' names, for a .svt; without it signal 3 is s3
+  -o FILE.svg       where the picture goes
+
+Example:
+
+  $ kit picture examples/flush.svt examples/flush-open.svw -o flush.svg
+  flush.svg: level 1 tested yes, 3 samples
+
+The status is 0 when the picture is written, 2 for a wrong command line, 3 where the table or the
+record is refused, and 4 where a file cannot be read, written or understood. Only with status 0 is
+anything written.
+";

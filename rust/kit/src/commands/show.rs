@@ -1,0 +1,117 @@
+//! `kit show`: a table or a record, as text.
+mod form;
+mod nodes;
+mod record;
+mod refused;
+
+use super::Command;
+use crate::assertion::Assertion;
+use crate::console::Console;
+use crate::failure::{Failure, Outcome, DONE, REFUSED};
+use crate::files;
+use crate::names::Names;
+use crate::notation;
+use crate::options::{Options, Spec};
+use crate::refusals;
+use crate::source;
+use std::path::Path;
+
+/// The command.
+pub const COMMAND: Command = Command {
+    name: "show",
+    help: HELP,
+    spec: Spec {
+        values: &["--names"],
+        flags: &["--nodes"],
+    },
+    run,
+};
+
+const HELP: &str = "\
+kit show TABLE|RECORD [--names FILE.txt] [--nodes]
+
+Writes the assertion of a table in the kit's notation to standard output. The text can be read
+again: kit table makes a table of it that has the same verdict on every record. Booleans that
+nothing uses are left out, and equal ones become one.
+
+Of a record it writes a line for each sample: its number, the 64 signals as one number, of which
+bit 3 is signal 3, and the names of the signals that are 1, or - where none is.
+
+A refused table is shown as `refused 6 at 3`, the words for that number, what was found, and for a
+refused node the nodes up to it and two more. A refused record is shown so too.
+
+  TABLE             a .svt file, or a text whose name ends in .txt
+  RECORD            a file whose name ends in .svw
+  --names FILE.txt  a text that declares the signals' names, for a .svt or a .svw; without it signal
+                    3 is s3
+  --nodes           the nodes instead of the text: number, operator, x, y, and the part of the
+                    assertion that the node stands for
+
+Examples:
+
+  $ kit show flush.svt --names flush.txt
+  signals ack=0 drop=1 strobe=2
+
+  (ack |-> strong((!drop)[*1:$] ##0 strobe)) until strong(0)
+
+  $ kit show examples/flush-open.svw --names flush.txt
+  3 samples
+  sample 0  0x0  -
+  sample 1  0x1  ack
+  sample 2  0x0  -
+
+The status is 0 when the file is shown, 2 for a wrong command line, 3 where the table or the record
+is refused, and 4 where a file cannot be read or understood.
+";
+
+fn run(options: &Options, console: &mut Console) -> Outcome {
+    let [path] = options.files(["one TABLE or RECORD"])?;
+    let names = options.value("--names").map(Path::new);
+    if source::is_record(path) {
+        return run_record(path, names, options, console);
+    }
+    let source = source::table(path, names)?;
+    let (table, names) = (&source.table, &source.names);
+    let shown = match Assertion::of_table(table) {
+        Err(refusal) => {
+            console.say(&refused::report(table, names, refusal))?;
+            return Ok(REFUSED);
+        }
+        Ok(assertion) if options.flag("--nodes") => nodes::accepted(&assertion, names),
+        Ok(assertion) => text(table, &assertion, names),
+    };
+    console.say(&shown)?;
+    Ok(DONE)
+}
+
+fn run_record(
+    path: &Path,
+    names: Option<&Path>,
+    options: &Options,
+    console: &mut Console,
+) -> Outcome {
+    if options.flag("--nodes") {
+        let words = "--nodes goes with a table: a record has samples and no nodes";
+        return Err(Failure::Usage(words.to_string()));
+    }
+    let bytes = files::read(path)?;
+    let names = names.map(source::declared).transpose()?.unwrap_or_default();
+    let (shown, status) = match xistomar::samples(&bytes) {
+        Ok(samples) => (record::accepted(&samples, &names), DONE),
+        Err(refusal) => (record::refused(&bytes, refusal), REFUSED),
+    };
+    console.say(&shown)?;
+    Ok(status)
+}
+
+/// The text, after comments that say what the judge refuses in it.
+fn text(table: &[u8], assertion: &Assertion, names: &Names) -> String {
+    let mut text = String::new();
+    if let Some(words) = refusals::sequence(assertion) {
+        text.push_str(&format!("// a sequence: {words}\n"));
+    }
+    if let Some(words) = refusals::too_large(table) {
+        text.push_str(&format!("// {words}\n"));
+    }
+    text + &notation::write(assertion, names)
+}

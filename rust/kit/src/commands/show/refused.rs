@@ -1,0 +1,120 @@
+//! Why a table is refused, with what was found in it.
+use super::form::{self, count, TABLE};
+use super::nodes;
+use crate::assertion::{Assertion, Operator, Sort};
+use crate::names::Names;
+use crate::notation;
+use crate::refusals::HOLLOW;
+use xistomar::Refusal;
+
+/// The program's line, the page's words, what was found, and the nodes around a refused one.
+pub fn report(table: &[u8], names: &Names, refusal: Refusal) -> String {
+    let mut report = form::report(refusal, &found(table, names, refusal));
+    if matches!(refusal.number(), 6 | 7 | 9) {
+        report.push('\n');
+        report.push_str(&nodes::around(table, refusal.node()));
+    }
+    report
+}
+
+/// What was found in the table.
+fn found(table: &[u8], names: &Names, refusal: Refusal) -> String {
+    let node = refusal.node();
+    match refusal.number() {
+        6 => faults(table, node).join("\n"),
+        7 => places(table, node),
+        8 => {
+            let root = usize::from(count(table)).saturating_sub(1);
+            let [operator, ..] = bytes(table, root);
+            format!("the root is node {root}, a {}", nodes::called(operator))
+        }
+        9 => hollow(table, names, node),
+        _ => form::found(table, &TABLE, refusal),
+    }
+}
+
+/// The four bytes of a node.
+fn bytes(table: &[u8], node: usize) -> [u8; 4] {
+    let nodes = table.get(6..).unwrap_or_default();
+    let node = nodes.chunks_exact(4).nth(node);
+    node.and_then(|node| node.try_into().ok())
+        .unwrap_or_default()
+}
+
+/// Which of the page's reasons for refusal 6 a node gives, in the page's order.
+fn faults(table: &[u8], node: usize) -> Vec<String> {
+    let [number, x, y, fourth] = bytes(table, node);
+    let Some(operator) = Operator::of(number) else {
+        return vec![format!("unknown operator: {number}")];
+    };
+    let mut faults = bad_bytes(operator, x, y);
+    if fourth != 0 {
+        faults.push(format!("fourth byte not 0: it is {fourth}"));
+    }
+    let operands = [("x", x), ("y", y)].into_iter().zip(operator.operands());
+    for ((called, operand), sort) in operands {
+        faults.extend(bad_operand(table, node, called, operand, *sort));
+    }
+    faults
+}
+
+/// Bytes of x and y that no node with this operator has.
+fn bad_bytes(operator: Operator, x: u8, y: u8) -> Vec<String> {
+    let mut faults = Vec::new();
+    match operator {
+        Operator::Constant if x > 1 => {
+            faults.push(format!("bad x or y: x is {x}, and a constant is 0 or 1"));
+        }
+        Operator::Signal if x > 63 => {
+            faults.push(format!("bad x or y: x is {x}, and a signal is 0 to 63"));
+        }
+        _ => {}
+    }
+    if operator.operands().len() < 2 && y != 0 {
+        faults.push(format!(
+            "bad x or y: y is {y}, and it is not used here, so 0 is due"
+        ));
+    }
+    faults
+}
+
+/// What is wrong with an operand: it does not stand below its node, or is of the wrong sort.
+fn bad_operand(table: &[u8], node: usize, called: &str, operand: u8, due: Sort) -> Option<String> {
+    if usize::from(operand) >= node {
+        return Some(format!("operand not below: {called} is {operand}"));
+    }
+    let [below, ..] = bytes(table, usize::from(operand));
+    let sort = Operator::of(below)?.sort();
+    let (given, wanted) = (notation::called(sort), notation::called(due));
+    let words = format!(
+        "operand of wrong sort: {called} is node {operand}, {given}, where {wanted} is due"
+    );
+    (sort != due).then_some(words)
+}
+
+/// The operand places in which a node stands.
+fn places(table: &[u8], node: usize) -> String {
+    let mut above = Vec::new();
+    for index in 0..usize::from(count(table)) {
+        let [operator, x, y, _] = bytes(table, index);
+        let operands = Operator::of(operator).map_or(0, |known| known.operands().len());
+        let places = [x, y].into_iter().take(operands);
+        let here = places.filter(|operand| usize::from(*operand) == node);
+        above.extend(here.map(|_| index.to_string()));
+    }
+    match above.len() {
+        0 => format!("node {node} stands in no operand place"),
+        count => {
+            let above = above.join(", ");
+            format!("node {node} stands in {count} operand places: of nodes {above}")
+        }
+    }
+}
+
+/// Refusal 9: the part, and what it means.
+fn hollow(table: &[u8], names: &Names, node: usize) -> String {
+    match Assertion::of_readable(table) {
+        Ok(assertion) => format!("{}: {HOLLOW}", notation::phrase(&assertion, node, names)),
+        Err(_) => HOLLOW.to_string(),
+    }
+}

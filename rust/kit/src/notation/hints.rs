@@ -1,0 +1,275 @@
+//! What people write who know SystemVerilog or another language, and what to write instead.
+use std::fmt;
+
+/// What to write instead.
+#[derive(Clone, Copy, Debug, PartialEq, Eq)]
+pub enum Hint {
+    /// A form, and the same in the notation. P, Q stand for properties, R, S for sequences and
+    /// a, b, c for booleans. What is put in for a letter may bind as loosely as it may in the form, so
+    /// the letter is in parentheses where that would be read otherwise.
+    Written(&'static str, &'static str),
+    /// The same, and more words.
+    Noted(&'static str, &'static str, &'static str),
+    /// In other words.
+    Words(&'static str),
+}
+
+use Hint::{Noted, Words, Written};
+
+impl fmt::Display for Hint {
+    fn fmt(&self, f: &mut fmt::Formatter<'_>) -> fmt::Result {
+        match self {
+            Written(form, instead) => write!(f, "`{form}` is written `{instead}`"),
+            Noted(form, instead, more) => write!(f, "`{form}` is written `{instead}`{more}"),
+            Words(words) => f.write_str(words),
+        }
+    }
+}
+
+/// The hint for a word or sign that is not part of the notation.
+pub fn of(text: &str) -> Option<Hint> {
+    if text.starts_with('$') && text.len() > 1 {
+        return Some(FUNCTION);
+    }
+    find(&FOREIGN, text)
+}
+
+/// The hint for what stands between `[` and `]` after a sequence, without blanks. `*0` and `*1:$`
+/// need none.
+pub fn repetition(inside: &str) -> Hint {
+    let numbers = |text: &str| text.bytes().all(|byte| byte.is_ascii_digit());
+    let bounds = inside
+        .strip_prefix('*')
+        .map(|bounds| bounds.split_once(':'));
+    find(&REPETITIONS, inside).unwrap_or(match bounds {
+        _ if inside.starts_with("->") => GOTO,
+        _ if inside.starts_with('=') => NONCONSECUTIVE,
+        None => BIT,
+        Some(Some((least, "$"))) if numbers(least) => Written("R[*2:$]", "(R ##1 R[*1:$])"),
+        Some(Some((least, most))) if numbers(least) && numbers(most) => {
+            Written("R[*1:2]", "(R or R ##1 R)")
+        }
+        Some(None) if numbers(inside.trim_start_matches('*')) => Written("R[*2]", "(R ##1 R)"),
+        _ => Words("`R[*0]` or `R[*1:$]` was expected"),
+    })
+}
+
+/// The hint for what follows `##`, without blanks. `1` and `0` need none.
+pub fn delay(after: &str) -> Hint {
+    find(&DELAYS, after).unwrap_or(match after {
+        _ if after.ends_with(":$]") => Written("R ##[2:$] S", "(R ##1 1[*1:$] ##1 S)"),
+        _ if after.starts_with('[') => Written("R ##[1:2] S", "((R ##1 S) or (R ##1 1 ##1 S))"),
+        _ if after.starts_with(|c: char| c.is_ascii_digit()) => Written("R ##2 S", "R ##1 1 ##1 S"),
+        _ => Words("## is followed by 1 or 0, as in `R ##1 S`"),
+    })
+}
+
+/// The signs that are not part of the notation and have a hint.
+pub fn signs() -> impl Iterator<Item = &'static str> {
+    let signs = FOREIGN.iter().map(|(sign, _)| *sign);
+    signs.filter(|sign| !sign.starts_with(char::is_alphabetic))
+}
+
+fn find(table: &[(&str, Hint)], text: &str) -> Option<Hint> {
+    let row = table.iter().find(|(known, _)| *known == text)?;
+    Some(row.1)
+}
+
+const FUNCTION: Hint = Words(
+    "functions such as $rose are not part of the notation: `!a ##1 a` is a rise of a, over two \
+     samples",
+);
+const BIT: Hint = Words(
+    "`R[*0]` or `R[*1:$]` was expected: a signal has one bit, so each bit of a bus is a signal of \
+     its own",
+);
+const GOTO: Hint = Written("b[->1]", "(((!b)[*0] or (!b)[*1:$]) ##1 b)");
+const NONCONSECUTIVE: Hint = Written(
+    "b[=1]",
+    "(((!b)[*0] or (!b)[*1:$]) ##1 b ##1 ((!b)[*0] or (!b)[*1:$]))",
+);
+const EQUAL: Hint = Noted(
+    "a == b",
+    "(((a) & (b)) | (!(a) & !(b)))",
+    "; for `a == 1` write `a`, and for `a == 0` write `!a`",
+);
+const UNEQUAL: Hint = Written("a != b", "(((a) & !(b)) | (!(a) & (b)))");
+const IMPLICATION: Hint = Words("the implication is written |->");
+const SIZE: Hint = Words("a signal is 0 or 1, and is not compared by size");
+const NUMBERS: Hint = Words("a signal is 0 or 1: there is nothing to count with here");
+const COMMENT: Hint = Words("comments begin with // and reach to the end of the line");
+const GROUP: Hint = Words("parts are held together by ( and )");
+const SET_UP: Hint =
+    Words("the assertion stands alone, without `assert property (..);` or a name around it");
+const RESET: Hint = Words("resets are not part of the notation: take them out of the record");
+const ABSENT: Hint =
+    Words("this operator is not part of the notation: kit table --help lists those that are");
+const EDGE: Hint = Words(
+    "edges are not part of the notation: `@(c)` ticks at each sample where c is 1; `kit record \
+     --on` takes samples at an edge",
+);
+const JOINED: Hint = Words(
+    "booleans are joined by &, which binds tighter than | (&& binds looser): parentheses help \
+     where both stand",
+);
+const DECLARE: Hint = Words("signals are declared in lines that begin with the word signals");
+const EVENTUALLY: Hint = Written("s_eventually P", "not (not (P) until strong(0))");
+
+/// The hint for a `##` with nothing before it.
+pub const LEADING_DELAY: Hint = Written("##1 R", "1 ##1 R");
+/// The hint for a number after `nexttime`.
+pub const COUNTED_NEXT: Hint = Written("nexttime[2] P", "nexttime nexttime (P)");
+
+/// Words and signs, each with its hint.
+pub const FOREIGN: [(&str, Hint); 81] = [
+    ("|=>", Written("R |=> P", "(R) ##1 1 |-> P")),
+    ("#-#", Written("R #-# P", "not (R |-> not (P))")),
+    ("#=#", Written("R #=# P", "not ((R) ##1 1 |-> not (P))")),
+    ("=>", IMPLICATION),
+    ("==>", IMPLICATION),
+    ("-->", IMPLICATION),
+    ("|-", IMPLICATION),
+    ("|--", IMPLICATION),
+    ("|-->", IMPLICATION),
+    (
+        "->",
+        Noted(
+            "a -> b",
+            "(!(a) | (b))",
+            " of two booleans, and `R |-> P` where a property follows",
+        ),
+    ),
+    (
+        "=",
+        Words("a signal stands for itself: `a` where it is 1, and `!a` where it is 0"),
+    ),
+    ("<->", EQUAL),
+    ("&&", JOINED),
+    ("||", Words("booleans are joined by |")),
+    ("~", Words("a boolean is turned round by !")),
+    ("==", EQUAL),
+    ("===", EQUAL),
+    ("!=", UNEQUAL),
+    ("!==", UNEQUAL),
+    ("^", UNEQUAL),
+    ("xor", UNEQUAL),
+    ("?", Written("c ? a : b", "(((c) & (a)) | (!(c) & (b)))")),
+    ("<", SIZE),
+    (">", SIZE),
+    ("<=", SIZE),
+    (">=", SIZE),
+    ("+", NUMBERS),
+    ("-", NUMBERS),
+    ("%", NUMBERS),
+    (
+        "#",
+        Words("comments begin with //, and delays are written ##1 and ##0"),
+    ),
+    ("/*", COMMENT),
+    ("/", COMMENT),
+    ("--", COMMENT),
+    (
+        ";",
+        Words("leave ; out: a declaration ends with its line, and the assertion with the text"),
+    ),
+    ("{", GROUP),
+    ("}", GROUP),
+    ("true", Words("the constants are 1 and 0")),
+    ("false", Words("the constants are 1 and 0")),
+    ("always", Written("always P", "((P) until strong(0))")),
+    ("s_always", ABSENT),
+    ("never", Written("never P", "(not (P) until strong(0))")),
+    ("s_eventually", EVENTUALLY),
+    ("eventually", EVENTUALLY),
+    ("next", Words("the next sample is asked by `nexttime P`")),
+    (
+        "s_nexttime",
+        Written("s_nexttime P", "not nexttime not (P)"),
+    ),
+    (
+        "s_until",
+        Written(
+            "P s_until Q",
+            "((P) until (Q)) and not (not (Q) until strong(0))",
+        ),
+    ),
+    (
+        "until_with",
+        Written("P until_with Q", "(P) until ((P) and (Q))"),
+    ),
+    (
+        "s_until_with",
+        Written(
+            "P s_until_with Q",
+            "((P) until ((P) and (Q))) and not (not ((P) and (Q)) until strong(0))",
+        ),
+    ),
+    ("implies", Written("P implies Q", "(not (P)) or (Q)")),
+    (
+        "iff",
+        Written("P iff Q", "((not (P)) or (Q)) and ((not (Q)) or (P))"),
+    ),
+    ("if", Written("if (b) P", "(b |-> P)")),
+    (
+        "else",
+        Written("if (b) P else Q", "((b |-> P) and (!(b) |-> Q))"),
+    ),
+    ("case", ABSENT),
+    ("intersect", ABSENT),
+    ("within", ABSENT),
+    ("throughout", ABSENT),
+    ("first_match", ABSENT),
+    ("disable", RESET),
+    ("accept_on", RESET),
+    ("reject_on", RESET),
+    ("sync_accept_on", RESET),
+    ("sync_reject_on", RESET),
+    ("posedge", EDGE),
+    ("negedge", EDGE),
+    ("edge", EDGE),
+    ("assert", SET_UP),
+    ("assume", SET_UP),
+    ("cover", SET_UP),
+    ("expect", SET_UP),
+    ("restrict", SET_UP),
+    ("property", SET_UP),
+    ("endproperty", SET_UP),
+    ("sequence", SET_UP),
+    ("endsequence", SET_UP),
+    ("default", SET_UP),
+    ("clocking", SET_UP),
+    ("signal", DECLARE),
+    ("wire", DECLARE),
+    ("logic", DECLARE),
+    ("input", DECLARE),
+    (
+        "define",
+        Words("a boolean gets a name in a line such as `let busy = a & !b`"),
+    ),
+];
+
+/// What may stand between `[` and `]`.
+const REPETITIONS: [(&str, Hint); 6] = [
+    ("+", Written("R[+]", "R[*1:$]")),
+    ("*", Written("R[*]", "(R[*0] or R[*1:$])")),
+    ("*0:$", Written("R[*0:$]", "(R[*0] or R[*1:$])")),
+    ("*1", Written("R[*1]", "R")),
+    ("*0:1", Written("R[*0:1]", "(R[*0] or R)")),
+    ("*0:0", Written("R[*0:0]", "R[*0]")),
+];
+
+/// What may follow `##`.
+const DELAYS: [(&str, Hint); 6] = [
+    ("[0:1]", Written("R ##[0:1] S", "((R ##0 S) or (R ##1 S))")),
+    ("[1:$]", LATER),
+    ("[+]", LATER),
+    ("[0:$]", NOW_OR_LATER),
+    ("[*]", NOW_OR_LATER),
+    ("[*0:$]", NOW_OR_LATER),
+];
+
+const LATER: Hint = Written("R ##[1:$] S", "(R ##1 (1[*0] or 1[*1:$]) ##1 S)");
+const NOW_OR_LATER: Hint = Written(
+    "R ##[0:$] S",
+    "((R ##0 S) or (R ##1 (1[*0] or 1[*1:$]) ##1 S))",
+);

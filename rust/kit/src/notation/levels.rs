@@ -1,0 +1,26 @@
+//! How tightly the operators bind, from the loosest.
+
+/// `@(c) X`, which reaches as far right as it can.
+pub const CLOCK: u8 = 0;
+/// `R |-> P`
+pub const IMPLIES: u8 = 1;
+/// `P until P`
+pub const UNTIL: u8 = 2;
+/// `X or X`
+pub const OR: u8 = 3;
+/// `P and P`
+pub const AND: u8 = 4;
+/// `not P`, `nexttime P`
+pub const PREFIX: u8 = 5;
+/// `R ##1 R`, `R ##0 R`
+pub const DELAY: u8 = 6;
+/// `b | b`
+pub const EITHER: u8 = 7;
+/// `b & b`
+pub const BOTH: u8 = 8;
+/// `!b`
+pub const NEGATION: u8 = 9;
+/// `R[*0]`, `R[*1:$]`
+pub const REPETITION: u8 = 10;
+/// Names, constants, `strong(R)`, `weak(R)` and what stands in parentheses.
+pub const PRIMARY: u8 = 11;

@@ -1,0 +1,89 @@
+//! The legend: the levels in words, and the marks.
+use super::layout::{baseline, Layout, LEGEND_APART, LEGEND_LINE, MARGIN, SWATCH};
+use super::style::{KEY, LEGEND};
+use super::svg::Svg;
+use super::text::{cells, room};
+use super::{closing, levels, ticks};
+use xistomar::Level;
+
+/// An entry of the legend.
+#[derive(Clone, Copy, Debug, PartialEq, Eq)]
+pub enum Entry {
+    /// A level, with its pattern.
+    Level(Level),
+    /// The mark of a tick.
+    Tick,
+    /// The closing mark.
+    Closing,
+}
+
+/// The entries of the upper line.
+const UPPER: [Entry; 2] = [Entry::Level(Level::Strong), Entry::Level(Level::Neutral)];
+/// The entries of the lower line.
+const LOWER: [Entry; 4] = [
+    Entry::Level(Level::Weak),
+    Entry::Level(Level::Broken),
+    Entry::Tick,
+    Entry::Closing,
+];
+
+impl Entry {
+    fn words(self) -> &'static str {
+        match self {
+            Entry::Level(level) => level.meaning(),
+            Entry::Tick => "clock tick",
+            Entry::Closing => "level closed",
+        }
+    }
+
+    /// The room of what stands before the words.
+    fn indent(self) -> i32 {
+        match self {
+            Entry::Level(_) => SWATCH.0 + 18,
+            Entry::Tick | Entry::Closing => 16,
+        }
+    }
+
+    fn width(self) -> i32 {
+        self.indent() + room(cells(self.words()), LEGEND.size)
+    }
+}
+
+/// The lines of the legend in a picture of this width: one where there is room, else two.
+pub fn lines(width: i32) -> Vec<Vec<Entry>> {
+    let all = [&UPPER[..], &LOWER[..]].concat();
+    let taken: i32 = all.iter().map(|entry| entry.width() + LEGEND_APART).sum();
+    match taken - LEGEND_APART <= width - 2 * MARGIN {
+        true => vec![all],
+        false => vec![UPPER.to_vec(), LOWER.to_vec()],
+    }
+}
+
+/// Draws the legend.
+pub fn draw(svg: &mut Svg, layout: &Layout) {
+    svg.open("g", &[("class", &"legend")]);
+    let mut top = layout.down.legend;
+    for line in lines(layout.across.width) {
+        let mut left = MARGIN;
+        for entry in line {
+            draw_entry(svg, entry, left, top);
+            left += entry.width() + LEGEND_APART;
+        }
+        top += LEGEND_LINE;
+    }
+    svg.close();
+}
+
+fn draw_entry(svg: &mut Svg, entry: Entry, left: i32, top: i32) {
+    let baseline = top + baseline::LEGEND;
+    match entry {
+        Entry::Level(level) => {
+            levels::draw_swatch(svg, level, (left, top + 4), SWATCH);
+            let digit = level.number().to_string();
+            svg.words(&KEY, (left + SWATCH.0 + 6, baseline), &digit);
+        }
+        Entry::Tick => ticks::draw_mark(svg, left + 5, top + 5),
+        Entry::Closing => closing::draw_mark(svg, left, top + 3),
+    }
+    svg.words(&LEGEND, (left + entry.indent(), baseline), entry.words());
+}

@@ -1,0 +1,66 @@
+//! What a picture shows, as the judge answered it.
+use crate::assertion::Assertion;
+use crate::names::Names;
+use crate::notation;
+use crate::verdict::{self, part_words, Verdict};
+use xistomar::Refusal;
+
+/// A row of the picture: what it is called, and at which samples it is 1.
+#[derive(Clone, Debug, PartialEq, Eq)]
+pub struct Trace {
+    /// The signal's name, or the clock's condition.
+    pub name: String,
+    /// Its value at each sample.
+    pub values: Vec<bool>,
+}
+
+/// What a picture shows.
+#[derive(Clone, Debug, PartialEq, Eq)]
+pub struct Scene {
+    /// The assertion in the notation.
+    pub assertion: String,
+    /// Which part was decisive, in words.
+    pub decisive: String,
+    /// The clocks and where they tick.
+    pub clocks: Vec<Trace>,
+    /// The signals that are shown.
+    pub signals: Vec<Trace>,
+    /// The levels.
+    pub verdict: Verdict,
+}
+
+impl Scene {
+    /// Asks the judge about a table and samples.
+    pub fn of(table: &[u8], names: &Names, samples: &[u64]) -> Result<Scene, Refusal> {
+        let account = verdict::account(table, names, samples)?;
+        let assertion = Assertion::of_table(table)?.tidy();
+        let clock = |condition: usize| Trace {
+            name: notation::phrase(&assertion, condition, names),
+            values: verdict::ticks(&assertion, condition, samples),
+        };
+        let signal = |number: u8| Trace {
+            name: names.name(number),
+            values: samples.iter().map(|sample| high(*sample, number)).collect(),
+        };
+        Ok(Scene {
+            decisive: part_words(&account),
+            assertion: account.assertion,
+            clocks: assertion.clocks().into_iter().map(clock).collect(),
+            signals: shown(&assertion, names).into_iter().map(signal).collect(),
+            verdict: account.verdict,
+        })
+    }
+}
+
+/// The signals that are shown: the declared ones in their order, then others that are asked about.
+fn shown(assertion: &Assertion, names: &Names) -> Vec<u8> {
+    let declared = names.all().iter().map(|(_, number)| *number);
+    let unnamed = assertion.signals().into_iter();
+    let unnamed = unnamed.filter(|number| names.declared(*number).is_none());
+    declared.chain(unnamed).collect()
+}
+
+/// Whether a signal is 1 in a sample.
+fn high(sample: u64, number: u8) -> bool {
+    sample.checked_shr(u32::from(number)).unwrap_or_default() & 1 == 1
+}

@@ -1,0 +1,65 @@
+//! Tests of the pictures, read back as elements.
+mod bands;
+mod elements;
+mod made;
+mod words;
+
+use super::{draw, Scene};
+use crate::names::Names;
+use crate::testing::table;
+use elements::{elements, Element};
+
+/// (ack |-> strong((!drop)[*1:$] ##0 strobe)) until strong(0)
+const FLUSH: &[u8] = include_bytes!("../../../../../examples/flush.svt");
+/// @(c) strong(a ##1 b)
+const P10: &[u8] = include_bytes!("../../../../../examples/p10.svt");
+
+/// strong(a)
+fn strong_a() -> Vec<u8> {
+    table(&[[1, 0, 0], [16, 0, 0], [32, 1, 0]])
+}
+
+/// The scene of a table whose signals 0, 1, .. have these names. Its assertion takes one line, its
+/// decisive part none, and its clocks are called c, d, .. so that the layout does not depend on the notation.
+fn scene(table: &[u8], list: &[&str], samples: &[u64]) -> Scene {
+    let mut scene = Scene::of(table, &Names::of(list), samples).unwrap();
+    scene.assertion = "the assertion".to_string();
+    scene.decisive = String::new();
+    for (clock, name) in scene.clocks.iter_mut().zip('c'..) {
+        clock.name = name.to_string();
+    }
+    scene
+}
+
+/// The flush of the examples, with names.
+fn flush(samples: &[u64]) -> Scene {
+    scene(FLUSH, &["ack", "drop", "strobe"], samples)
+}
+
+/// The picture's elements.
+fn drawn(scene: &Scene) -> Vec<Element> {
+    elements(&draw(scene)).unwrap()
+}
+
+/// The elements of a class.
+fn of_class<'a>(elements: &'a [Element], class: &str) -> Vec<&'a Element> {
+    let found = elements
+        .iter()
+        .filter(|element| element.get("class") == class);
+    found.collect()
+}
+
+/// What the texts of a class say.
+fn texts(elements: &[Element], class: &str) -> Vec<String> {
+    let found = of_class(elements, class).into_iter();
+    let found = found.filter(|element| element.tag == "text");
+    found.map(|element| element.text.clone()).collect()
+}
+
+/// The values of an attribute of the elements of a class.
+fn values(elements: &[Element], class: &str, attribute: &str) -> Vec<String> {
+    let found = of_class(elements, class).into_iter();
+    found
+        .map(|element| element.get(attribute).to_string())
+        .collect()
+}

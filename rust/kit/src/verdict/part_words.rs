@@ -1,0 +1,91 @@
+//! The decisive part in words.
+use super::account::Account;
+use crate::assertion::Operator;
+use xistomar::Level;
+
+/// Which part was decisive, from which sample on it was asked, and what came of it.
+pub fn part_words(account: &Account) -> String {
+    let part = match account.whole {
+        true => "the whole assertion",
+        false => &account.part,
+    };
+    let from = from_words(account.decisive.from, account.verdict.samples());
+    let what = what_words(account);
+    let mut text = format!("Decisive: {part}, asked from {from}: {what}.\n");
+    if let Some(so) = consequence(account) {
+        text.push_str(so);
+        text.push('\n');
+    }
+    text
+}
+
+fn from_words(from: usize, samples: usize) -> String {
+    match from < samples {
+        true => format!("sample {from}"),
+        false => format!("sample {from}, which is still to come"),
+    }
+}
+
+/// What came of the part: of a promise of a sequence its match, of other parts what counts in them.
+fn what_words(account: &Account) -> String {
+    let decisive = &account.decisive;
+    let at = match decisive.closed {
+        Some(sample) => format!(" at sample {sample}"),
+        None => String::new(),
+    };
+    let promise = matches!(account.operator, Operator::Strong | Operator::Weak);
+    match (decisive.level, decisive.matched) {
+        (_, Some((first, last))) if first == last => format!("matched at sample {first}"),
+        (_, Some((first, last))) => format!("matched by samples {first} to {last}"),
+        (Level::Broken, _) if promise => format!("broken{at}, for it can no longer match"),
+        (Level::Weak, _) if promise && !decisive.turned => {
+            "still waiting for its match".to_string()
+        }
+        (_, _) if promise => "it has not matched yet, and still can".to_string(),
+        (level, _) => match (level, counting(account, level)) {
+            (Level::Broken, why) => format!("broken{at}{why}"),
+            (Level::Weak, why) => format!("still waiting{why}"),
+            (Level::Neutral, why) => format!("held so far{why}"),
+            (Level::Strong, why) => format!("held{at}{why}"),
+        },
+    }
+}
+
+/// What counts in a part of which no operand alone is decisive.
+fn counting(account: &Account, level: Level) -> &'static str {
+    match (account.operator, level) {
+        (Operator::Implies, Level::Strong) if !account.decisive.asked => {
+            ", for its left side can no longer match from there: nothing was asked"
+        }
+        (Operator::Implies, _) if !account.decisive.asked => {
+            ", for its left side has not matched from there yet"
+        }
+        (Operator::Implies, Level::Strong) => {
+            "; no match of its left side was broken, and none is still to come"
+        }
+        (Operator::Implies, Level::Neutral) => {
+            "; no match of its left side was broken, and one may still be"
+        }
+        (Operator::Implies, _) => "; every match of its left side counts",
+        (Operator::Nexttime, _) => "; the sample that it asks about is still to come",
+        (Operator::Until, Level::Neutral) => ", and what comes next may break it",
+        (Operator::PropertyOr, Level::Broken) => ", as both its sides are",
+        (Operator::PropertyAnd, Level::Strong) => ", as both its sides did",
+        _ => "; both its sides count",
+    }
+}
+
+/// What the part means for the assertion, where that is not plain: under `not` the levels are turned
+/// round, and an open assertion is never above its decisive part, however the record goes on.
+fn consequence(account: &Account) -> Option<&'static str> {
+    let level = account.verdict.judgement.level;
+    match (account.decisive.turned, level) {
+        (true, Level::Broken) => Some("It stands under not, so that it broke the assertion."),
+        (true, Level::Strong) => Some("It stands under not, so that the assertion held."),
+        (true, _) => Some("It stands under not: once it holds for good, the assertion is broken."),
+        (false, Level::Weak | Level::Neutral) if !account.whole => {
+            Some("Once it is broken, so is the assertion.")
+        }
+        _ => None,
+    }
+}

@@ -1,0 +1,43 @@
+//! The verdict and its decisive part, on tables and samples worked out by hand and on random ones.
+mod clocked;
+mod pages;
+mod random;
+mod rules;
+mod said;
+mod walk;
+
+use super::decisive::{decisive, Decisive};
+use super::verdict;
+use crate::assertion::Assertion;
+use crate::testing::table;
+
+/// The decisive part of a table's assertion.
+fn found(nodes: &[[u8; 3]], samples: &[u64]) -> Decisive {
+    let table = table(nodes);
+    let verdict = verdict(&table, samples).unwrap();
+    let assertion = Assertion::of_table(&table).unwrap();
+    decisive(&assertion, samples, &verdict).unwrap()
+}
+
+/// Asserts the level after each sample, the closing sample, and the decisive part: its node, the sample
+/// from which it was asked, and its level.
+fn check(
+    nodes: &[[u8; 3]],
+    samples: &[u64],
+    levels: &[u8],
+    closed: Option<usize>,
+    part: (usize, usize, u8),
+) {
+    let verdict = verdict(&table(nodes), samples).unwrap();
+    let after: Vec<u8> = verdict.levels.iter().map(|level| level.number()).collect();
+    assert_eq!(after, levels, "{nodes:?} {samples:?}");
+    let last = *levels.last().unwrap();
+    assert_eq!(verdict.judgement.level.number(), last);
+    assert_eq!(verdict.closed(), closed);
+    let found = found(nodes, samples);
+    let shown = (found.node, found.from, found.level.number());
+    assert_eq!(shown, part, "{nodes:?} {samples:?}");
+    assert_eq!(found.closed, closed);
+    // the level is the assertion's, turned round under an odd number of nots
+    assert_eq!(found.turned, part.2 != last);
+}

@@ -1,0 +1,90 @@
+//! Words for messages: things that are counted, and what is repeated of an input.
+
+/// The characters of an input's word that a message repeats, at most.
+const REPEATED: usize = 40;
+
+/// `1 sample`, `3 samples`.
+pub fn count(number: usize, thing: &str) -> String {
+    match number {
+        1 => format!("1 {thing}"),
+        _ => format!("{number} {thing}s"),
+    }
+}
+
+/// `a`, `a and b`, `a, b and c`.
+pub fn list(words: &[String]) -> String {
+    match words {
+        [first @ .., before, last] => {
+            let first: String = first.iter().map(|word| format!("{word}, ")).collect();
+            format!("{first}{before} and {last}")
+        }
+        _ => words.concat(),
+    }
+}
+
+/// A line for each of the numbered things, aligned: `sample 5   55 ns`, `sample 10  105 ns`. They
+/// stand in the order of their numbers.
+pub fn numbered(thing: &str, lines: &[(usize, String)]) -> String {
+    let digits = lines.last().map_or(1, |(last, _)| last.to_string().len());
+    let line = |(number, words): &(usize, String)| format!("{thing} {number:<digits$}  {words}\n");
+    lines.iter().map(line).collect()
+}
+
+/// Whether a character has no shape of its own: it moves the cursor or the direction of writing, or
+/// has no width.
+pub fn unseen(character: char) -> bool {
+    character.is_control()
+        || matches!(character,
+            '\u{ad}' | '\u{61c}' | '\u{200b}'..='\u{200f}' | '\u{2028}'..='\u{202e}'
+            | '\u{2060}'..='\u{206f}' | '\u{feff}')
+}
+
+/// A character as a terminal can show it.
+pub fn printable(character: char) -> char {
+    match unseen(character) {
+        true => '\u{fffd}',
+        false => character,
+    }
+}
+
+/// A word of an input, cut where it is long.
+pub fn shortened(word: &str) -> String {
+    match word.char_indices().nth(REPEATED) {
+        Some((bytes, _)) => format!("{}..", word.get(..bytes).unwrap_or_default()),
+        None => word.to_string(),
+    }
+}
+
+#[cfg(test)]
+mod tests {
+    use super::*;
+
+    #[test]
+    fn one_thing_has_no_s() {
+        let counts = [0, 1, 2].map(|number| count(number, "byte"));
+        assert_eq!(counts, ["0 bytes", "1 byte", "2 bytes"]);
+    }
+
+    #[test]
+    fn the_last_of_a_list_comes_after_and() {
+        let list = |words: &[&str]| list(&words.iter().map(|w| w.to_string()).collect::<Vec<_>>());
+        assert_eq!([list(&[]), list(&["a"])], ["", "a"]);
+        assert_eq!(list(&["a", "b"]), "a and b");
+        assert_eq!(list(&["a", "b", "c", "d"]), "a, b, c and d");
+    }
+
+    #[test]
+    fn what_cannot_be_seen_is_replaced() {
+        let shown: String = "a\u{1b}é\n\u{202e}\u{200b}写"
+            .chars()
+            .map(printable)
+            .collect();
+        assert_eq!(shown, "a\u{fffd}é\u{fffd}\u{fffd}\u{fffd}写");
+    }
+
+    #[test]
+    fn a_long_word_is_cut_between_characters() {
+        assert_eq!(shortened(&"é".repeat(40)), "é".repeat(40));
+        assert_eq!(shortened(&"é".repeat(41)), "é".repeat(40) + "..");
+    }
+}

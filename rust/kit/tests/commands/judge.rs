@@ -1,0 +1,326 @@
+//! `kit judge` from its command line: the first line, the statuses, and files of every kind.
+use crate::support::{example, kit, record, table, Folder, Ran};
+use second::{random_case, Case};
+
+fn judge(table: &str, record: &str, more: &[&str]) -> Ran {
+    kit([&["judge", table, record], more].concat())
+}
+
+/// Judges a record by a table, both written to files.
+fn judge_in(folder: &Folder, table: &[u8], record: &[u8], more: &[&str]) -> Ran {
+    folder.file("t.svt", table);
+    folder.file("r.svw", record);
+    judge_again(folder, more)
+}
+
+/// Judges the files that were written last.
+fn judge_again(folder: &Folder, more: &[&str]) -> Ran {
+    judge(&folder.path("t.svt"), &folder.path("r.svw"), more)
+}
+
+/// The flush of the examples with one of its records.
+fn flush(record: &str, more: &[&str]) -> Ran {
+    judge(&example("flush.svt"), &example(record), more)
+}
+
+/// strong(a)
+fn strong() -> Vec<u8> {
+    table(&[[1, 0, 0], [16, 0, 0], [32, 1, 0]])
+}
+
+#[test]
+fn a_level_has_status_0_where_none_is_required() {
+    for (name, line) in [
+        ("flush.svw", "level 2 tested yes"),
+        ("flush-open.svw", "level 1 tested yes"),
+        ("flush-broken.svw", "level 0 tested yes"),
+        ("flush-untested.svw", "level 2 tested no"),
+    ] {
+        let said = flush(name, &[]);
+        assert_eq!((said.status, said.line()), (0, line));
+        assert_eq!(said.out.lines().nth(1), Some(""));
+        assert_eq!(said.err, "");
+    }
+}
+
+#[test]
+fn require_compares_the_level() {
+    for (required, reached) in [("0", true), ("1", true), ("2", false), ("3", false)] {
+        let said = flush("flush-open.svw", &["--require", required]);
+        assert_eq!(said.status, u8::from(!reached), "{required}");
+        let expected = match reached {
+            true => format!("\nRequired {required}: reached.\n"),
+            false => format!("\nRequired {required}: not reached.\n"),
+        };
+        assert!(said.out.ends_with(&expected), "{}", said.out);
+    }
+    assert_eq!(flush("flush-broken.svw", &["--require=0"]).status, 0);
+    assert_eq!(flush("flush-broken.svw", &["--require=1"]).status, 1);
+}
+
+#[test]
+fn tested_asks_for_a_test() {
+    assert_eq!(flush("flush.svw", &["--tested"]).status, 0);
+    let said = flush("flush-untested.svw", &["--tested"]);
+    assert_eq!(said.status, 1);
+    assert!(said.out.ends_with("\nRequired tested: not reached.\n"));
+    let both = ["--require", "2", "--tested"];
+    assert_eq!(flush("flush.svw", &both).status, 0);
+    assert_eq!(flush("flush-untested.svw", &both).status, 1);
+    assert_eq!(flush("flush-open.svw", &both).status, 1);
+}
+
+#[test]
+fn json_is_one_line_and_has_the_same_status() {
+    let said = flush("flush-broken.svw", &["--json", "--require", "1"]);
+    assert_eq!(said.status, 1);
+    assert!(said
+        .out
+        .starts_with(r#"{"line":"level 0 tested yes","level":0,"#));
+    assert!(said.out.ends_with("}\n"));
+    assert_eq!(said.out.lines().count(), 1);
+    let decisive = r#""from":1,"level":0,"turned":false,"closed":3,"matched":null}"#;
+    assert!(said.out.contains(r#""levels":[2,2,1,1,0,0],"closed":3,"#));
+    assert!(said.out.contains(r#""decisive":{"node":10,"#));
+    assert!(said.out.contains(decisive));
+    let folder = Folder::new();
+    let said = judge_in(&folder, b"SVT", &record(&[]), &["--json"]);
+    assert_eq!(said.status, 3);
+    assert!(said.out.starts_with(r#"{"line":"refused 1 at 0","#));
+    assert_eq!(said.out.lines().count(), 1);
+}
+
+#[test]
+fn a_wrong_command_line_has_status_2() {
+    for more in [
+        &["--require", "4"] as &[&str],
+        &["--require", "03"],
+        &["--require", ""],
+        &["--require", "-1"],
+        &["--require"],
+        &["--requires", "3"],
+        &["--json", "--json"],
+        &["more.svw"],
+    ] {
+        let said = flush("flush.svw", more);
+        assert_eq!((said.status, said.out.as_str()), (2, ""), "{more:?}");
+        assert!(said.err.contains("kit judge --help"), "{}", said.err);
+    }
+    let none = kit(["judge"]);
+    assert_eq!(none.status, 2);
+    assert!(none.err.contains("TABLE and RECORD must be given"));
+}
+
+#[test]
+fn a_file_that_cannot_be_read_has_status_4() {
+    let folder = Folder::new();
+    let good = folder.file("r.svw", record(&[1]));
+    let table = folder.file("t.svt", strong());
+    let [missing, none] = ["missing", ""].map(|name| folder.path(name));
+    for (table, record, why) in [
+        (&missing, &good, "there is no such file"),
+        (&table, &missing, "there is no such file"),
+        (&none, &good, "this is a folder"),
+        (&table, &none, "this is a folder"),
+    ] {
+        for more in [&[] as &[&str], &["--json"]] {
+            let said = judge(table, record, more);
+            assert_eq!((said.status, said.out.as_str()), (4, ""));
+            assert!(said.err.contains(why), "{}", said.err);
+        }
+    }
+}
+
+/// Asserts that a refusal names its number, its node and its file.
+fn refused(folder: &Folder, table: &[u8], record: &[u8], number: u8, node: u8, file: &str) {
+    let said = judge_in(folder, table, record, &[]);
+    let line = format!("refused {number} at {node}");
+    assert_eq!((said.status, said.line()), (3, line.as_str()));
+    let place = match number {
+        6 | 7 | 9 => format!(" at node {node}"),
+        _ => String::new(),
+    };
+    let sentence = format!("\nThe {file} is refused with number {number}{place}: ");
+    assert!(said.out.contains(&sentence), "{}", said.out);
+    let swapped = number == 2;
+    assert_eq!(said.out.contains("kit show "), file == "table" && !swapped);
+    assert_eq!(said.out.contains("the TABLE comes first"), swapped);
+    assert_eq!(
+        said.out.contains("is a sequence, and the judge"),
+        number == 12
+    );
+    let json = judge_again(folder, &["--json"]).out;
+    let object =
+        format!(r#""refused":{{"file":"{file}","number":{number},"node":{node},"reason":""#);
+    assert!(json.contains(&object), "{json}");
+}
+
+#[test]
+fn every_refusal_of_a_table_names_the_table() {
+    let folder = Folder::new();
+    let good = record(&[1]);
+    // Each table comes with a good record and with one that is refused, too.
+    for record in [&good[..], b"SVX\x01\0\0"] {
+        let refused = |table: &[u8], number, node| {
+            refused(&folder, table, record, number, node, "table");
+        };
+        refused(b"SVT\x01\0", 1, 0);
+        refused(b"SVW\x01\0\x01\x01\0\0\0", 2, 0);
+        refused(b"SVT\x02\0\x01\x01\0\0\0", 3, 0);
+        refused(b"SVT\x01\0\0", 4, 0);
+        refused(
+            &[b"SVT\x01\0\x79".to_vec(), vec![0; 4 * 121]].concat(),
+            4,
+            0,
+        );
+        refused(b"SVT\x01\0\x02\x01\0\0\0", 5, 0);
+        refused(&[strong(), vec![0]].concat(), 5, 0);
+        refused(&table(&[[1, 0, 0], [16, 0, 0], [50, 1, 0]]), 6, 2);
+        refused(
+            &table(&[[1, 0, 0], [16, 0, 0], [16, 0, 0], [32, 2, 0]]),
+            7,
+            1,
+        );
+        refused(&table(&[[1, 0, 0]]), 8, 0);
+        refused(
+            &table(&[[1, 0, 0], [16, 0, 0], [20, 1, 0], [32, 2, 0]]),
+            9,
+            3,
+        );
+        refused(&table(&[[1, 0, 0], [16, 0, 0]]), 12, 0);
+        // nine nexttimes under a clock become 14 nodes each: over 120
+        let mut nexttimes = vec![[1, 0, 0], [16, 0, 0], [32, 1, 0]];
+        nexttimes.extend((2..11).map(|below| [38, below, 0]));
+        nexttimes.push([40, 0, 11]);
+        refused(&table(&nexttimes), 13, 0);
+    }
+}
+
+#[test]
+fn every_refusal_of_a_record_names_the_record() {
+    let folder = Folder::new();
+    let refused = |record: &[u8], number| {
+        refused(&folder, &strong(), record, number, 0, "record");
+    };
+    refused(b"", 1);
+    refused(b"SVW\x01\0", 1);
+    refused(b"SVT\x01\0\0", 2);
+    refused(b"SVW\x01\x01\0", 3);
+    refused(&record(&[0; 64]), 10);
+    refused(&record(&[1])[..13], 5);
+    refused(&[record(&[1]), vec![b'\n']].concat(), 5);
+    refused(&[record(&[1]), vec![7; 1 << 20]].concat(), 5);
+}
+
+#[test]
+fn a_wrong_mark_says_what_the_file_may_be() {
+    let folder = Folder::new();
+    let good = folder.file("good.svw", record(&[1]));
+    let text = folder.file("bus.txt", "signals a\nstrong(a)");
+    let other = folder.file("bus.sva", "signals a\nstrong(a)");
+    let strong = folder.file("t.svt", strong());
+    let elf = folder.file("elf", b"\x7fELF\x02\x01\x01\0");
+    let first = "the TABLE comes first, and the RECORD second";
+    for (table, record, words) in [
+        (
+            &good,
+            &text,
+            format!("{good} has the mark of a record: {first}.\n"),
+        ),
+        (
+            &good,
+            &strong,
+            format!("{good} has the mark of a record: {first}.\n"),
+        ),
+        (
+            &other,
+            &good,
+            format!("{other} may be a text: the name of a text ends in .txt.\n"),
+        ),
+        (&elf, &good, format!("kit show {elf} shows the table.\n")),
+        (
+            &text,
+            &strong,
+            format!("{strong} has the mark of a table: {first}.\n"),
+        ),
+        (
+            &strong,
+            &text,
+            format!(
+                "{text} may be a text or a waveform: kit record makes a record of a waveform.\n"
+            ),
+        ),
+        (&strong, &elf, "number 2: wrong mark.\n".to_string()),
+    ] {
+        let said = judge(table, record, &[]);
+        assert_eq!((said.status, said.line()), (3, "refused 2 at 0"));
+        assert!(said.out.ends_with(&words), "{}", said.out);
+    }
+}
+
+#[test]
+fn the_longest_record_is_judged() {
+    let folder = Folder::new();
+    // strong(a ##1 a) closes at its second sample; 63 samples of a
+    let then = table(&[[1, 0, 0], [16, 0, 0], [16, 0, 0], [17, 1, 2], [32, 3, 0]]);
+    let said = judge_in(&folder, &then, &record(&[1; 63]), &[]);
+    assert_eq!((said.status, said.line()), (0, "level 3 tested yes"));
+    assert!(said.out.contains("\nClosed at sample 1: "));
+    assert!(said.out.lines().any(|line| line.ends_with(" 60  61  62")));
+    let none = judge_in(&folder, &then, &record(&[]), &[]);
+    assert_eq!((none.status, none.line()), (0, "level 1 tested yes"));
+    assert!(none.out.contains("\n  sample  start\n  level       1\n"));
+}
+
+/// A table and a record of one input: the table has 6 + 4 times its count bytes, or all there is.
+fn split(input: &[u8]) -> (&[u8], &[u8]) {
+    let count = input.get(5).map_or(0, |count| usize::from(*count));
+    input.split_at(input.len().min(6 + 4 * count))
+}
+
+#[test]
+fn the_first_line_is_the_programs_on_random_and_damaged_inputs() {
+    let folder = Folder::new();
+    let (mut levels, mut refusals) = (0, 0);
+    for seed in 0..4_000 {
+        let Case::Program { input } = random_case(seed) else {
+            continue;
+        };
+        let line = xistomar::line(&input);
+        let (table, record) = split(&input);
+        let said = judge_in(&folder, table, record, &[]);
+        assert_eq!(said.line(), line, "seed {seed}");
+        let refused = line.starts_with("refused");
+        assert_eq!(said.status, if refused { 3 } else { 0 });
+        let json = judge_again(&folder, &["--json"]);
+        assert_eq!(json.status, said.status);
+        assert!(json.out.starts_with(&format!(r#"{{"line":"{line}","#)));
+        *if refused { &mut refusals } else { &mut levels } += 1;
+    }
+    assert!(levels > 150 && refusals > 100, "{levels} {refusals}");
+}
+
+#[test]
+fn the_help_names_every_key_of_the_object() {
+    let help = kit(["judge", "--help"]);
+    assert_eq!(help.status, 0);
+    let object = flush("flush.svw", &["--json"]).out;
+    for key in [
+        "line",
+        "level",
+        "tested",
+        "unmatched",
+        "assertion",
+        "signals",
+        "samples",
+        "levels",
+        "closed",
+        "decisive",
+        "required",
+        "refused",
+    ] {
+        assert!(help.out.contains(&format!("\n  {key} ")), "{key}");
+        assert!(object.contains(&format!(r#""{key}":"#)), "{key}");
+    }
+    assert!(help.out.lines().all(|line| line.chars().count() <= 100));
+}

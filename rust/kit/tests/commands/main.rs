@@ -1,0 +1,16 @@
+//! The commands of the kit from their command lines, all in one program, which builds faster than one
+//! for each command.
+mod bad_input;
+mod batch;
+mod judge;
+mod options;
+mod picture;
+mod record;
+mod show;
+#[cfg(target_os = "linux")]
+mod stream;
+mod support;
+mod table;
+#[path = "../../src/testing.rs"]
+mod testing;
+mod waveforms;
