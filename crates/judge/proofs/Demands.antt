@@ -9,8 +9,8 @@ use mathlib.Core.List.{List, [], _∷_, _++_}
 use Prim.Native.Nat.{ℕ, zero, _*_, _-_, _≤_}
 use lib.Dec.{T}
 use lib.ListN.{length}
-use Rattle.tests.specs.Tests.{Tells}
-use Rattle.tests.proofs.Telling.{is-map, is-like, same-test}
+use Rattle.telling.specs.Tests.{Tells}
+use Rattle.telling.proofs.Telling.{is-map, is-like, same-test}
 use Rattle.positions.proofs.Laws.{ext}
 use Rattle.refusal.specs.First.{Refusal, NotGiven, FirstGiven}
 use Rattle.refusal.specs.Heading.{count}

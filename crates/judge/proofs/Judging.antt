@@ -7,8 +7,8 @@ use mathlib.Core.Bool.{Bool, false}
 use mathlib.Core.List.{List, [], _∷_, _++_}
 use Prim.Native.Nat.{ℕ, _+_, _*_, _-_, _<_, _≤_}
 use lib.ListN.{length, take}
-use Rattle.tests.specs.Tests.{Tells}
-use Rattle.tests.proofs.Telling.{is-map, is-as}
+use Rattle.telling.specs.Tests.{Tells}
+use Rattle.telling.proofs.Telling.{is-map, is-as}
 use Rattle.positions.specs.declared.PositionSet.{PositionSet}
 use Rattle.positions.specs.Member.{has, Is}
 use Rattle.positions.proofs.Laws.{has-none, unique}
@@ -38,7 +38,7 @@ use Rattle.rewrite.specs.Numbers.{newCount}
 use Rattle.rewrite.specs.Tables.{newTable}
 use Rattle.rewrite.specs.Rewrites.{OfClocks, tooMany}
 use Rattle.rewrite.specs.Keeps.{Keeps}
-use Rattle.rows.specs.Shares.{share, longest, topWord, wordIn, bitIn, Row}
+use Rattle.rows.specs.Shares.{share, longest, topWord, wordIn, bitIn, HasRow}
 use Rattle.rows.specs.Rows.{filled, Fits}
 use Rattle.judge.specs.Tested.{Tested}
 use Rattle.judge.specs.Rows.{Onward, Filled}
@@ -194,11 +194,11 @@ module _ (s : List ℕ) (wrong n start words : ℕ) (r : Rewriting) (new : List 
       rowed : Rowed s xs d d′
       rowed = (clock, right, subst (λ (u : List ℕ). Filled u xs d d′) table-is rows)
 
-      pub root-row : Row (length d′) (r .count - 1)
+      pub root-row : HasRow (length d′) (r .count - 1)
       root-row = let l = rows .long in let h = enough in let c = some in let k = count-is in omega arith
 
-      pub asks-rows : Testing t (length xs) d′ (r .count)
-      asks-rows = subst (Testing t (length xs) d′) count-is (testing t xs d d′ new-built short rows (let l = rows .long in let h = enough in omega arith))
+      pub implies-rows : Testing t (length xs) d′ (r .count)
+      implies-rows = subst (Testing t (length xs) d′) count-is (testing t xs d d′ new-built short rows (let l = rows .long in let h = enough in omega arith))
 
       -- what the root's row says of the root of s, clocks and all
       level-right : wrong ≡ sequence → (P : Prop ℕ) × RootP s P × Meaning.Level signal P xs (levelIn d′ (r .count - 1))

@@ -24,7 +24,7 @@ use Rattle.table.proofs.Forming.{coded-as}
 use Rattle.table.proofs.Shapes.{Formed, Suits, down}
 use Rattle.table.proofs.Checking.{sound}
 use Rattle.rewrite.specs.Numbers.{isClock}
-use Rattle.rows.specs.Shares.{share, longest, wordIn, Row}
+use Rattle.rows.specs.Shares.{share, longest, wordIn, HasRow}
 use Rattle.rows.specs.Rows.{rowsOf, filled, Ready}
 use Rattle.judge.specs.Rows.{BooleanRow, SequenceRow, PropertyRow, Filled}
 use Rattle.rows.proofs.Filling.{row-at, length-filled, filled-row, filled-rest}
@@ -40,7 +40,7 @@ module _ (t xs : List ℕ) (c : Checks t accepted) (plain : (k : ℕ) → k < co
   -- the bytes of a node whose kind is known
   -- ---- the operands' rows lie below
 
-  low : {k x sort : ℕ} → Suits t k sort x → Row (share * k) x
+  low : {k x sort : ℕ} → Suits t k sort x → HasRow (share * k) x
   low f = omega arith
 
   signal-low : (k : ℕ) → k < count t → (x : ℕ) → nodeAt t k ≡ Boolean (Signal x) → x < 64

@@ -9,8 +9,8 @@ use native.Mathlib.Decide.{decLt}
 use lib.Dec.{leb}
 use lib.ListN.{length}
 use borrow.Author.Tests.{le-leb, lt-leb, eq-eqb, ne-eqb}
-use Rattle.tests.specs.Tests.{Tells}
-use Rattle.tests.proofs.Telling.{is-map, is-like, is-true, is-and, is-and-then, is-or, is-not, is-eq, is-test, is-some-at, decide}
+use Rattle.telling.specs.Tests.{Tells}
+use Rattle.telling.proofs.Telling.{is-map, is-like, is-true, is-and, is-and-then, is-or, is-not, is-eq, is-test, is-some-at, decide}
 use Rattle.meaning.specs.Syntax.{Seq, Prop, strong, weak, neg, either, both, implies, next, until, free}
 use Rattle.meaning.specs.Words.{word, Tail, none, tops, bots, other}
 use Rattle.meaning.specs.Meaning.{Strong, Sat}

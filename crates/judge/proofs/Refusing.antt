@@ -9,8 +9,8 @@ use mathlib.Core.List.{List, [], _∷_, _++_}
 use Prim.Native.Nat.{ℕ, _+_, _*_, _-_, _<_, _≤_}
 use lib.Dec.{eqb}
 use lib.ListN.{length, take}
-use Rattle.tests.specs.Tests.{Tells}
-use Rattle.tests.proofs.Telling.{passed, failed, decide, is-and, is-not, is-eq}
+use Rattle.telling.specs.Tests.{Tells}
+use Rattle.telling.proofs.Telling.{passed, failed, decide, is-and, is-not, is-eq}
 use Rattle.refusal.specs.declared.Verdict.{Verdict}
 use Rattle.refusal.specs.First.{Refusal, when, Answers, NotGiven}
 use Rattle.refusal.specs.Heading.{count}
@@ -31,7 +31,7 @@ use Rattle.rewrite.proofs.Deciding.{few-new}
 use Rattle.rewrite.proofs.Theorems.{output-is}
 use Rattle.rows.specs.Shares.{share, longest}
 use Rattle.judge.specs.Refusals.{wrongRoot, tooLong, startAbove, tooSmall}
-use Rattle.rewrite.specs.Computed.{refusing}
+use Rattle.rewrite.specs.Computed.{refusedRewriting}
 use Rattle.judge.specs.Computed.{settling, Settles}
 
 -- the shares of a rewritten table's nodes are counted in a machine's number
@@ -108,10 +108,10 @@ module _ (s : List ℕ) (wrong n start words : ℕ) (d : List ℕ) (room : lengt
       pub root-sort : (sort : ℕ) → sort ≡ sortAt s (x - 1) → sort ≡ sortAt s (root s)
       root-sort sort e = e ∙ ap (λ (k : ℕ). sortAt s (k - 1)) ex
 
-    declines : (number : ℕ) → ¬ (number ≡ 0) → Answers own (refused number 0) → (q : Rewriting) → q ≡ refusing number 0 → (new : List ℕ) → Settles s wrong n start words q new
+    declines : (number : ℕ) → ¬ (number ≡ 0) → Answers own (refused number 0) → (q : Rewriting) → q ≡ refusedRewriting number 0 → (new : List ℕ) → Settles s wrong n start words q new
     declines number z a q e new = rw e (record { answer = answer (refused number 0) a; accepted = λ y. absurd (z y) })
 
-    pub wrong-root : (x sort : ℕ) → x ≡ count s → sort ≡ sortAt s (x - 1) → sort ≡ wrong → (q : Rewriting) → q ≡ refusing 12 0 → (new : List ℕ) → Settles s wrong n start words q new
+    pub wrong-root : (x sort : ℕ) → x ≡ count s → sort ≡ sortAt s (x - 1) → sort ≡ wrong → (q : Rewriting) → q ≡ refusedRewriting 12 0 → (new : List ℕ) → Settles s wrong n start words q new
     unfolding Answers
     wrong-root x sort ex e g = declines 12 (λ z. omega arith) (inl (refl, (refl, sym (root-sort x ex sort e) ∙ g)))
 
@@ -142,7 +142,7 @@ module _ (s : List ℕ) (wrong n start words : ℕ) (d : List ℕ) (room : lengt
         sized : OfClocks s (λ clock. r .count ≡ newCount s clock)
         sized = let (clock, right, e) = w .accepted z in (clock, right, e .0)
 
-        pub too-long : longest < n → (q : Rewriting) → q ≡ refusing 10 0 → (new : List ℕ) → Settles s wrong n start words q new
+        pub too-long : longest < n → (q : Rewriting) → q ≡ refusedRewriting 10 0 → (new : List ℕ) → Settles s wrong n start words q new
         unfolding Answers
         too-long g = declines 10 (λ y. omega arith) (inr (λ k y. right-root (y .1), inr (λ k y. clean .0 (y .1), inl (refl, (refl, g)))))
 
@@ -150,7 +150,7 @@ module _ (s : List ℕ) (wrong n start words : ℕ) (d : List ℕ) (room : lengt
           not-long : (k : ℕ) → ¬ tooLong n .given k
           not-long k y = let l = y .1 in omega arith
 
-          pub start-above : n < start → (q : Rewriting) → q ≡ refusing 14 0 → (new : List ℕ) → Settles s wrong n start words q new
+          pub start-above : n < start → (q : Rewriting) → q ≡ refusedRewriting 14 0 → (new : List ℕ) → Settles s wrong n start words q new
           unfolding Answers
           start-above g =
               declines 14 (λ y. omega arith) (inr (λ k y. right-root (y .1), inr (λ k y. clean .0 (y .1), inr (not-long, inl (refl, (refl, g))))))
@@ -159,7 +159,7 @@ module _ (s : List ℕ) (wrong n start words : ℕ) (d : List ℕ) (room : lengt
             not-above : (k : ℕ) → ¬ startAbove n start .given k
             not-above k y = let l = y .1 in omega arith
 
-            pub too-small : words < share * r .count → (q : Rewriting) → q ≡ refusing 11 0 → (new : List ℕ) → Settles s wrong n start words q new
+            pub too-small : words < share * r .count → (q : Rewriting) → q ≡ refusedRewriting 11 0 → (new : List ℕ) → Settles s wrong n start words q new
             unfolding Answers
             too-small g =
                 let (clock, right, e) = sized in

@@ -8,7 +8,7 @@ use native.Mathlib.Nat.{eq-or-lt-of-le, le-of-suc-le-suc}
 use native.Mathlib.Omega.{arith}
 use lib.ListN.{length, getD}
 use lib.Seq.{ext-getD}
-use Rattle.tests.proofs.Telling.{same-test, side}
+use Rattle.telling.proofs.Telling.{same-test, side}
 use Rattle.positions.specs.Member.{has}
 use Rattle.positions.proofs.Laws.{ext}
 use Rattle.refusal.specs.Heading.{count}

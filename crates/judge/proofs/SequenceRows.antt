@@ -9,11 +9,11 @@ use native.Mathlib.Omega.{arith}
 use native.Mathlib.Decide.{decLt}
 use lib.ListN.{length, getD}
 use borrow.Author.Tests.{le-leb, lt-leb, le-ltb, ne-eqb}
-use Rattle.tests.specs.Tests.{Tells}
-use Rattle.tests.proofs.Telling.{is-map, is-like, is-false, is-and, is-and-then, is-or, is-eq, is-lt, is-test, is-some-at, is-as}
+use Rattle.telling.specs.Tests.{Tells}
+use Rattle.telling.proofs.Telling.{is-map, is-like, is-false, is-and, is-and-then, is-or, is-eq, is-lt, is-test, is-some-at, is-as}
 use Rattle.meaning.specs.Syntax.{Bexp, Seq, one, cat, fuse, alt, empty, plus}
 use Rattle.meaning.specs.Words.{none}
-use Rattle.meaning.specs.Meaning.{value, meets, Match, last, more}
+use Rattle.meaning.specs.Meaning.{value, satisfies, Match, last, more}
 use Rattle.meaning.specs.Signal.{signal}
 use Rattle.meaning.proofs.Unroll.{plus-first}
 use Rattle.meaning.proofs.Answers.{word-out}
@@ -51,7 +51,7 @@ module _ (xs R : List ℕ) (short : length xs ≤ longest) (row : ℕ → ℕ) w
       top = w .word topWord (omega arith) ∙ rw (lt-leb topWord (length xs) (omega arith))
 
   pub letter-row : (x : ℕ) (b : Bexp ℕ) → BooleanRow xs (wordIn R x) b → Laid xs R (Sequence (Letter x)) row → SequenceRow xs row (one b)
-  unfolding Match meets
+  unfolding Match satisfies
   letter-row x b rx w =
       let n = length xs in
       sequence-row (Letter x) (one b) w

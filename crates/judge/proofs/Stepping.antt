@@ -8,8 +8,8 @@ use native.Mathlib.Omega.{arith}
 use native.Mathlib.Nat.{eq-or-lt-of-le, le-of-suc-le-suc}
 use lib.Dec.{T}
 use lib.ListN.{length, getD}
-use Rattle.tests.specs.Tests.{Tells}
-use Rattle.tests.proofs.Telling.{is-map, is-and, is-or, is-imp, is-le, is-eq, is-test, is-every, is-some-at, agree, side}
+use Rattle.telling.specs.Tests.{Tells}
+use Rattle.telling.proofs.Telling.{is-map, is-and, is-or, is-imp, is-le, is-eq, is-test, is-every, is-some-at, agree, side}
 use Rattle.meaning.specs.Syntax.{Bexp, Seq, one, cat, fuse, alt, empty, plus, Prop, weak, implies, next, until, free}
 use Rattle.meaning.specs.Words.{real, word, Tail, none, tops, bots, inside, after}
 use Rattle.meaning.specs.Meaning.{Match, Strong, Sat, counts}

@@ -10,8 +10,8 @@ use borrow.Author.Tests.{eqb-true, eq-eqb}
 use native.Mathlib.Numerals.{add-one}
 use lib.Dec.{eqb}
 use lib.ListN.{length}
-use Rattle.tests.specs.Tests.{Tells, some}
-use Rattle.tests.proofs.Telling.{some-next, passes, is-and, is-test, passed, is-map, is-and-then, is-or, is-not, is-some, is-le}
+use Rattle.telling.specs.Tests.{Tells, some}
+use Rattle.telling.proofs.Telling.{some-next, passes, is-and, is-test, passed, is-map, is-and-then, is-or, is-not, is-some, is-le}
 use Rattle.refusal.specs.Heading.{count}
 use Rattle.meaning.specs.Syntax.{Seq}
 use Rattle.table.specs.declared.nodes.Raw.{Raw}
@@ -25,13 +25,13 @@ use Rattle.table.proofs.Shapes.{down}
 use Rattle.table.proofs.Standing.{sequence-in}
 use Rattle.table.proofs.Reading.{uniqueS}
 use Rattle.table.proofs.Built.{Built}
-use Rattle.rows.specs.Shares.{share, longest, wordIn, Row}
+use Rattle.rows.specs.Shares.{share, longest, wordIn, HasRow}
 use Rattle.rows.specs.Bits.{starts}
 use Rattle.judge.specs.Tested.{ImpliesAt, Matched, Tested}
 use Rattle.judge.specs.Rows.{Inside, SequenceRow, Filled}
 use Rattle.judge.proofs.Stepping.{ends-inside}
 use Rattle.judge.proofs.SequenceRows.{longer-tells}
-use Rattle.judge.specs.Computed.{asks, meets, testedIn, Testing}
+use Rattle.judge.specs.Computed.{isImplies, impliesMatched, testedIn, Testing}
 
 -- what was met once is not asked again
 once : (m a b : Bool) → (m || ((a && not m) && b)) ≡ (m || (a && b))
@@ -42,8 +42,8 @@ once false false b = refl
 module _ (t : List ℕ) (n : ℕ) (ws : List ℕ) where
   -- what the nodes below k have shown
   pub record Seen (k : ℕ) (a b : Bool) : Type 0 where
-    pub asked : a ≡ some (asks t) 0 k
-    pub met : b ≡ some (meets t n ws) 0 k
+    pub asked : a ≡ some (isImplies t) 0 k
+    pub met : b ≡ some (impliesMatched t n ws) 0 k
 
   pub none-seen : Seen 0 false false
   unfolding some
@@ -52,12 +52,12 @@ module _ (t : List ℕ) (n : ℕ) (ws : List ℕ) where
   pub one-seen : (k : ℕ) (asked met : Bool) (v : Raw) (x : ℕ) (here : Bool) → Seen k asked met → v ≡ rawAt t k → x ≡ v .x
       → here ≡ ((eqb (v .op) 37 && not met) && some (starts ws n x) 0 64) → Seen (k + 1) (asked || eqb (v .op) 37) (met || here)
   one-seen k asked met v x here s ev ex eh = record {
-    asked = rw (s .asked, ev, add-one k) (some-next (asks t) k);
-    met = ap (λ b. met || b) eh ∙ once met (eqb (v .op) 37) (some (starts ws n x) 0 64) ∙ rw (s .met, ex, ev, add-one k) (some-next (meets t n ws) k);
+    asked = rw (s .asked, ev, add-one k) (some-next (isImplies t) k);
+    met = ap (λ b. met || b) eh ∙ once met (eqb (v .op) 37) (some (starts ws n x) 0 64) ∙ rw (s .met, ex, ev, add-one k) (some-next (impliesMatched t n ws) k);
   }
 
-  pub row-there : (m k : ℕ) → Testing t n ws m → k < m → (v : Raw) (x : ℕ) → v ≡ rawAt t k → x ≡ v .x → (met : Bool) → (eqb (v .op) 37 && not met) ≡ true → Row (length ws) x
-  row-there m k h l v x ev ex met e = rw (ex, ev) (h .rows k l (passes (is-and (is-test (asks t k)) (is-test (not met)) .to (passed (rw ev at e)) .0)))
+  pub row-there : (m k : ℕ) → Testing t n ws m → k < m → (v : Raw) (x : ℕ) → v ≡ rawAt t k → x ≡ v .x → (met : Bool) → (eqb (v .op) 37 && not met) ≡ true → HasRow (length ws) x
+  row-there m k h l v x ev ex met e = rw (ex, ev) (h .rows k l (passes (is-and (is-test (isImplies t k)) (is-test (not met)) .to (passed (rw ev at e)) .0)))
 
   pub all-seen : (k m : ℕ) (asked met : Bool) → Seen k asked met → k ≤ m → m ≤ k → (not asked || met) ≡ testedIn t n ws m
   unfolding testedIn
@@ -67,15 +67,15 @@ module _ (t : List ℕ) (n : ℕ) (ws : List ℕ) where
 
 -- the bytes of a well-formed node say whether it is a `|->`, and of which sequence
 module _ (t : List ℕ) (k : ℕ) (fit : WellFormed t k) where
-  implies-asks : (x y : ℕ) → nodeAt t k ≡ Property (Implies x y) → (asks t k ≡ true) × (x ≡ rawAt t k .x)
+  node-implies : (x y : ℕ) → nodeAt t k ≡ Property (Implies x y) → (isImplies t k ≡ true) × (x ≡ rawAt t k .x)
   unfolding bytesOf propertyBytes
-  implies-asks x y e =
+  node-implies x y e =
       let c = coded-as t k fit e in
       (eq-eqb (rawAt t k .op) 37 (ap (λ (r : Raw). r .op) c), sym (ap (λ (r : Raw). r .x) c))
 
-  asks-implies : asks t k ≡ true → nodeAt t k ≡ Property (Implies (rawAt t k .x) (rawAt t k .y))
+  implies-node : isImplies t k ≡ true → nodeAt t k ≡ Property (Implies (rawAt t k .x) (rawAt t k .y))
   unfolding nodeOf lookup operators
-  asks-implies e = rw (eqb-true (rawAt t k .op) 37 e)
+  implies-node e = rw (eqb-true (rawAt t k .op) 37 e)
 
 -- the test of the rows tells of the table, where the rows mean their trees
 module _ (t xs d ws : List ℕ) (ok : Built t) (short : length xs ≤ longest) (rows : Filled t xs d ws) where
@@ -86,10 +86,10 @@ module _ (t xs d ws : List ℕ) (ok : Built t) (short : length xs ≤ longest) (
       let (q, a) = sequence-in t (count t) (ok .fit) (count t) x (omega arith) (omega arith) sort in
       (q, a, rows .sequences x (omega arith) q a)
 
-  asks-tells : (k : ℕ) → k < count t → Tells (asks t k) ((x : ℕ) × ImpliesAt t k x)
-  asks-tells k h = record {
-    to = λ a. (rawAt t k .x, record { inside = h; y = rawAt t k .y; node = asks-implies t k (ok .fit k h) (passes a) });
-    from = λ q. passed (implies-asks t k (ok .fit k h) (q .0) (q .1 .y) (q .1 .node) .0);
+  implies-tells : (k : ℕ) → k < count t → Tells (isImplies t k) ((x : ℕ) × ImpliesAt t k x)
+  implies-tells k h = record {
+    to = λ a. (rawAt t k .x, record { inside = h; y = rawAt t k .y; node = implies-node t k (ok .fit k h) (passes a) });
+    from = λ q. passed (node-implies t k (ok .fit k h) (q .0) (q .1 .y) (q .1 .node) .0);
   }
 
   matched-tells : (x : ℕ) (q : Seq ℕ) → SequenceAt (nodeAt t) x q → SequenceRow xs (wordIn ws x) q → Tells (some (starts ws (length xs) x) 0 64) (Matched t xs x)
@@ -105,24 +105,24 @@ module _ (t xs d ws : List ℕ) (ok : Built t) (short : length xs ≤ longest) (
       let same : m .sequence ≡ q = uniqueS (m .stands) a in
       (m .start, omega arith, omega arith, (omega arith, (m .end, omega arith, omega arith, (subst (λ (p : Seq ℕ). Inside p xs (m .start) (m .end)) same (m .matches), omega arith)))))
 
-  meets-tells : (k : ℕ) → k < count t → Tells (meets t (length xs) ws k) ((x : ℕ) × ImpliesAt t k x × Matched t xs x)
-  meets-tells k h =
+  implies-matched-tells : (k : ℕ) → k < count t → Tells (impliesMatched t (length xs) ws k) ((x : ℕ) × ImpliesAt t k x × Matched t xs x)
+  implies-matched-tells k h =
       is-map
-      (is-and-then (asks-tells k h) (λ q. let (p, a, row) = left-row k (rawAt t k .x) (rawAt t k .y) h (asks-implies t k (ok .fit k h) (passes (asks-tells k h .from q))) in matched-tells (rawAt t k .x) p a row))
+      (is-and-then (implies-tells k h) (λ q. let (p, a, row) = left-row k (rawAt t k .x) (rawAt t k .y) h (implies-node t k (ok .fit k h) (passes (implies-tells k h .from q))) in matched-tells (rawAt t k .x) p a row))
       (λ q.
       let ((x, i), m) = q in
-      let e = implies-asks t k (ok .fit k h) x (i .y) (i .node) .1 in
+      let e = node-implies t k (ok .fit k h) x (i .y) (i .node) .1 in
       (x, i, subst (Matched t xs) (sym e) m))
       (λ q.
       let (x, i, m) = q in
-      let e = implies-asks t k (ok .fit k h) x (i .y) (i .node) .1 in
+      let e = node-implies t k (ok .fit k h) x (i .y) (i .node) .1 in
       ((x, i), subst (Matched t xs) e m))
 
   pub tested-means : Tells (testedIn t (length xs) ws (count t)) (Tested t xs)
   unfolding testedIn
   tested-means =
       is-map
-      (is-or (is-not (is-some 0 (count t) (λ k u v. asks-tells k (omega arith)))) (is-some 0 (count t) (λ k u v. meets-tells k (omega arith))))
+      (is-or (is-not (is-some 0 (count t) (λ k u v. implies-tells k (omega arith)))) (is-some 0 (count t) (λ k u v. implies-matched-tells k (omega arith))))
       (⊎-elim (λ f. inl (λ k x i. let l = i .inside in f (k, omega arith, omega arith, (x, i)))) (λ q. let (k, _, _, (x, i, m)) = q in inr (k, x, i, m)))
       (⊎-elim (λ f. inl (λ q. let (k, _, _, (x, i)) = q in f k x i)) (λ q. let (k, x, i, m) = q in let l = i .inside in inr (k, omega arith, omega arith, (x, i, m))))
 
@@ -133,5 +133,5 @@ module _ (t xs d ws : List ℕ) (ok : Built t) (short : length xs ≤ longest) (
       record {
         bytes = omega arith;
         short = short;
-        rows = λ k h e. let ((l, _, _), _) = down t k (ok .fit k h) (asks-implies t k (ok .fit k h) e) in omega arith;
+        rows = λ k h e. let ((l, _, _), _) = down t k (ok .fit k h) (implies-node t k (ok .fit k h) e) in omega arith;
       }

@@ -6,8 +6,8 @@ use mathlib.Core.List.{List, _∷_, _++_}
 use Prim.Native.Nat.{ℕ}
 use lib.Dec.{eqb}
 use lib.ListN.{length}
-use Rattle.tests.specs.Tests.{Tells}
-use Rattle.tests.proofs.Telling.{same-test}
+use Rattle.telling.specs.Tests.{Tells}
+use Rattle.telling.proofs.Telling.{same-test}
 use Rattle.positions.proofs.Laws.{ext}
 use Rattle.refusal.specs.declared.Verdict.{Verdict}
 use Rattle.refusal.specs.First.{Refusal, NotGiven}

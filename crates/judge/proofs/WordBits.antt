@@ -5,8 +5,8 @@ use mathlib.Core.List.{List}
 use Prim.Native.Nat.{ℕ, _<_}
 use lib.Dec.{ltb}
 use borrow.Author.Tests.{lt-ltb}
-use Rattle.tests.specs.Tests.{Tells}
-use Rattle.tests.proofs.Telling.{is-map, is-and, is-lt, is-as}
+use Rattle.telling.specs.Tests.{Tells}
+use Rattle.telling.proofs.Telling.{is-map, is-and, is-lt, is-as}
 use Rattle.positions.specs.Member.{has}
 use Rattle.positions.proofs.Laws.{has-collect}
 use Rattle.table.specs.declared.nodes.Node.{Node}

@@ -5,7 +5,7 @@ use mathlib.Core.List.{List, [], _∷_, _++_}
 use Prim.Native.Nat.{ℕ, _+_, _*_, _<_, _≤_}
 use lib.Dec.{eqb}
 use lib.ListN.{length, take}
-use Rattle.tests.specs.Tests.{some}
+use Rattle.telling.specs.Tests.{some}
 use Rattle.refusal.specs.First.{Refusal, Answers}
 use Rattle.meaning.specs.Levels.{levelOf}
 use Rattle.table.specs.Nodes.{rawAt}
@@ -14,7 +14,7 @@ use Rattle.rewrite.specs.declared.Rewriting.{Rewriting}
 use Rattle.rewrite.specs.Numbers.{newCount}
 use Rattle.rewrite.specs.Tables.{newTable}
 use Rattle.rewrite.specs.Rewrites.{OfClocks, tooMany}
-use Rattle.rows.specs.Shares.{longest, bitIn, Row}
+use Rattle.rows.specs.Shares.{longest, bitIn, HasRow}
 use Rattle.rows.specs.Bits.{starts}
 use Rattle.judge.specs.Refusals.{wrongRoot, tooLong, startAbove, tooSmall}
 
@@ -37,17 +37,17 @@ unfoldable pub levelIn : List ℕ → ℕ → ℕ
 levelIn ws root = levelOf (bitIn ws root 2 0) (bitIn ws root 0 0) (bitIn ws root 1 0)
 
 -- node k is a `|->`; its sequence has a match that is not empty
-abbrev pub asks : List ℕ → ℕ → Bool
-asks t k = eqb (rawAt t k .op) 37
+abbrev pub isImplies : List ℕ → ℕ → Bool
+isImplies t k = eqb (rawAt t k .op) 37
 
-abbrev pub meets : List ℕ → ℕ → List ℕ → ℕ → Bool
-meets t n ws k = asks t k && some (starts ws n (rawAt t k .x)) 0 64
+abbrev pub impliesMatched : List ℕ → ℕ → List ℕ → ℕ → Bool
+impliesMatched t n ws k = isImplies t k && some (starts ws n (rawAt t k .x)) 0 64
 
 unfoldable pub testedIn : List ℕ → ℕ → List ℕ → ℕ → Bool
-testedIn t n ws m = not (some (asks t) 0 m) || some (meets t n ws) 0 m
+testedIn t n ws m = not (some (isImplies t) 0 m) || some (impliesMatched t n ws) 0 m
 
 -- what `tested` asks: the bytes of m nodes, and the rows of the sequences
 pub record Testing (t : List ℕ) (n : ℕ) (ws : List ℕ) (m : ℕ) : Type 0 where
   pub bytes : 4 * m + 6 ≤ length t
   pub short : n ≤ longest
-  pub rows : (k : ℕ) → k < m → asks t k ≡ true → Row (length ws) (rawAt t k .x)
+  pub rows : (k : ℕ) → k < m → isImplies t k ≡ true → HasRow (length ws) (rawAt t k .x)

@@ -4,7 +4,7 @@ use mathlib.Core.Bool.{false}
 use mathlib.Core.List.{List}
 use Prim.Native.Nat.{ℕ, _*_, _<_, _≤_}
 use lib.ListN.{length, getD}
-use Rattle.tests.specs.Tests.{Tells}
+use Rattle.telling.specs.Tests.{Tells}
 use Rattle.positions.specs.Member.{has}
 use Rattle.refusal.specs.Heading.{count}
 use Rattle.meaning.specs.Syntax.{Bexp, Seq, Prop, free}

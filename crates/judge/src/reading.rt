@@ -8,8 +8,8 @@ ghost use mathlib.Core.Path.{_≡_};
 ghost use mathlib.Core.Bool.{true, _&&_};
 ghost use Prim.Native.Nat.{_≤_};
 ghost use lib.ListN.{length};
-ghost use Rattle.tests.specs.Tests.{some};
-ghost use Rattle.rows.specs.Shares.{longest, Row};
+ghost use Rattle.telling.specs.Tests.{some};
+ghost use Rattle.rows.specs.Shares.{longest, HasRow};
 ghost use Rattle.rows.specs.Bits.{starts};
 ghost use Rattle.judge.specs.Computed.{levelIn, testedIn, Testing};
 
@@ -18,7 +18,7 @@ const IMPLIES: u8 = 37;
 
 // The level of a property node: its three answers from position 0.
 pub fn level_of(ws: &[u64], root: usize) -> Level
-    requires { ⌜ Row (length (now ws)) root ⌝ }
+    requires { ⌜ HasRow (length (now ws)) root ⌝ }
     ensures { λ r. ⌜ r .number ≡ levelIn (now (ws .entry)) root ⌝ }
 {
     let strong = word_at(ws, root, 2).has(0);
@@ -29,7 +29,7 @@ pub fn level_of(ws: &[u64], root: usize) -> Level
 
 // Whether, where `asked`, the sequence of row a has a match that is not empty.
 fn matched(ws: &[u64], asked: bool, a: usize, n: usize) -> bool
-    requires { ⌜ (asked ≡ true → Row (length (now ws)) a) ⌝ }
+    requires { ⌜ (asked ≡ true → HasRow (length (now ws)) a) ⌝ }
     requires { ⌜ n ≤ longest ⌝ }
     ensures { λ r. ⌜ r ≡ (asked && some (starts (now (ws .entry)) n a) 0 64) ⌝ }
 {

@@ -10,7 +10,7 @@ use lib.Seq.{take-all, take-at, length-take-le}
 use Rattle.refusal.specs.declared.Verdict.{Verdict}
 use Rattle.refusal.specs.First.{Refusal, Answers, LowestSuch}
 use Rattle.refusal.specs.Heading.{count}
-use Rattle.tests.proofs.Telling.{decide, is-eq}
+use Rattle.telling.proofs.Telling.{decide, is-eq}
 use Rattle.refusal.proofs.Deciding.{none-given, not-given-append, answers-after, answers-beyond}
 use Rattle.meaning.specs.Syntax.{Prop}
 use Rattle.meaning.specs.Meaning.{Level, level3, level2, level1, level0}
@@ -31,7 +31,7 @@ use Rattle.judge.proofs.Passing.{judgeRest, judge-passes}
 use Rattle.line.specs.Text.{levelLine, refusedLine}
 use Rattle.line.specs.Program.{tablePart, recordPart, samplesOf, cleared, refusals, LineFor, Says}
 use Rattle.line.specs.Computed.{Puts}
-use Rattle.line.proofs.Parts.{Ends}
+use Rattle.line.proofs.Parts.{PartsAt}
 
 -- ---- the node of a refusal
 
@@ -159,7 +159,7 @@ pub level-digit : (t xs d : List ℕ) (judged : Judgement) (left : List ℕ) →
 level-digit t xs d judged left judges z = let (_, _, l) = judges .accepted z .level in low-level l
 
 -- what is known when the judge has answered: the record was read into 63 words, and the workspace was cleared
-module _ (s : List ℕ) (end : ℕ) (parts : Ends s end) (reading : Reading) (words : List ℕ) (read : Reads (take (length s - end) (drop end s)) (replicate 63 0) reading words) (judged : Judgement) (left : List ℕ)
+module _ (s : List ℕ) (end : ℕ) (parts : PartsAt s end) (reading : Reading) (words : List ℕ) (read : Reads (take (length s - end) (drop end s)) (replicate 63 0) reading words) (judged : Judgement) (left : List ℕ)
     (size : length words ≡ 63) (judges : Judges (take end s) (take (reading .count) words) cleared judged left) where
   -- the bytes from `end` on are all that follow
   reads : Reads (drop end s) (replicate 63 0) reading words

@@ -10,7 +10,7 @@ use borrow.Author.Tests.{lt-ltb, le-ltb}
 use lib.ListN.{length, getD, take, drop, set, length-append, length-drop, length-set}
 use lib.Seq.{take-suc, take-length, sets-eq, length-take-le}
 use native.Mathlib.Numerals.{add-one}
-use Rattle.tests.proofs.Telling.{decide, is-lt}
+use Rattle.telling.proofs.Telling.{decide, is-lt}
 use Rattle.refusal.specs.declared.Verdict.{Verdict}
 use Rattle.rewrite.specs.Computed.{put}
 use Rattle.rewrite.proofs.Putting.{put-none, put-put}

@@ -10,7 +10,7 @@ use Prim.Native.Nat.{ℕ, _+_, _*_, _<_, _≤_, min}
 use lib.Dec.{eqb}
 use lib.ListN.{length, getD, take, drop, length-take, length-drop}
 use lib.Seq.{getD-take, take-take, take-add, drop-at, length-take-le}
-use Rattle.tests.proofs.Telling.{decide, is-lt}
+use Rattle.telling.proofs.Telling.{decide, is-lt}
 use Rattle.refusal.specs.declared.Verdict.{Verdict}
 use Rattle.refusal.specs.First.{Refusal, when, Answers}
 use Rattle.refusal.specs.Heading.{number, count, version, mark, headingRefusals}

@@ -14,12 +14,12 @@ use Rattle.meaning.specs.Words.{real, Word, inside, isBot, flip, cut, No
 use Rattle.meaning.proofs.Cells.{alive}
 use Rattle.meaning.specs.Meaning.{Match, counts, ticks, Second, Strong, Sat}
 use Rattle.meaning.proofs.Order.{Below, same, to-top, match-mono, match-alive}
-use Rattle.tests.proofs.Telling.{side, is-map, is-test, is-true, is-false, is-and, is-or, is-not, is-imp, decide, is-eq, is-le, is-some, is-every}
+use Rattle.telling.proofs.Telling.{side, is-map, is-test, is-true, is-false, is-and, is-or, is-not, is-imp, decide, is-eq, is-le, is-some, is-every}
 use Rattle.meaning.proofs.Tails.{AllTop, cut-in, cut-out}
 use Rattle.meaning.proofs.Mono.{strong-mono}
 use Rattle.meaning.proofs.Closed.{bar-word}
 use Rattle.meaning.proofs.Shift.{sat-shift}
-use Rattle.tests.specs.Tests.{Tells, some, every}
+use Rattle.telling.specs.Tests.{Tells, some, every}
 use Rattle.meaning.proofs.Eval.{matchB, is-match, topB, is-top}
 
 -- how many positions there are, the tail counted as one

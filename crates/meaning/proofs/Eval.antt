@@ -9,12 +9,12 @@ use lib.Dec.{T, ltb, eqb}
 use Rattle.meaning.specs.Syntax.{Bexp, nott, Seq, one, cat, fuse, alt, empty, plus, clocked, Clock, free, on}
 use Rattle.meaning.specs.Words.{Cell, real, top, bot, end, Word}
 use Rattle.meaning.proofs.Cells.{isTop}
-use Rattle.meaning.specs.Meaning.{Plus, last, more, meets, Match}
+use Rattle.meaning.specs.Meaning.{Plus, last, more, satisfies, Match}
 use Rattle.meaning.proofs.Order.{top-above, match-le, carry}
-use Rattle.tests.proofs.Telling.{side, is-map, is-test, is-false, is-and, is-or, is-eq, is-le, is-some, is-every}
+use Rattle.telling.proofs.Telling.{side, is-map, is-test, is-false, is-and, is-or, is-eq, is-le, is-some, is-every}
 use Rattle.meaning.proofs.Tails.{AllTop}
 use Rattle.meaning.proofs.Unroll.{plus-first}
-use Rattle.tests.specs.Tests.{Tells, some, every}
+use Rattle.telling.specs.Tests.{Tells, some, every}
 
 -- one or more stretches in a row, n steps at most
 unfoldable pub plusB : (ℕ → ℕ → Bool) → ℕ → ℕ → ℕ → Bool
@@ -48,9 +48,9 @@ plus-snoc (more a q) j h = more a (plus-snoc q j h)
 
 module _ {A S : Type 0} (reads : A → S → Bool) where
   unfoldable pub matchB : Clock A → Seq A → Word S → ℕ → ℕ → Bool
-  matchB free (one b) f i j = let t = meets reads (f i) b in eqb j (suc i) && t
+  matchB free (one b) f i j = let t = satisfies reads (f i) b in eqb j (suc i) && t
   matchB (on c) (one b) f i j =
-      let t = meets reads (f (j - 1)) c && (meets reads (f (j - 1)) b && every (λ m. meets reads (f m) (nott c)) i (j - 1 - i)) in
+      let t = satisfies reads (f (j - 1)) c && (satisfies reads (f (j - 1)) b && every (λ m. satisfies reads (f m) (nott c)) i (j - 1 - i)) in
       ltb i j && t
   matchB κ (cat r s) f i j = some (λ m. let t = matchB κ s f m j in matchB κ r f i m && t) i (suc (j - i))
   matchB κ (fuse r s) f i j = some (λ m. let t = matchB κ s f m j in matchB κ r f i (suc m) && t) i (j - i)
@@ -61,19 +61,19 @@ module _ {A S : Type 0} (reads : A → S → Bool) where
 
   pub is-match : (κ : Clock A) (r : Seq A) (f : Word S) (i j : ℕ) → Tells (matchB κ r f i j) (Match reads κ r f i j)
   unfolding matchB Match
-  is-match free (one b) f i j = is-and (is-eq j (suc i)) (is-test (meets reads (f i) b))
+  is-match free (one b) f i j = is-and (is-eq j (suc i)) (is-test (satisfies reads (f i) b))
   is-match (on c) (one b) f i j =
       is-map
       (is-and (is-le (suc i) j)
-      (is-and (is-test (meets reads (f (j - 1)) c))
-      (is-and (is-test (meets reads (f (j - 1)) b)) (is-every i (j - 1 - i) (λ m u v. is-test (meets reads (f m) (nott c)))))))
+      (is-and (is-test (satisfies reads (f (j - 1)) c))
+      (is-and (is-test (satisfies reads (f (j - 1)) b)) (is-every i (j - 1 - i) (λ m u v. is-test (satisfies reads (f m) (nott c)))))))
       (λ q. (j - 1, omega arith, omega arith, q .1 .0, q .1 .1 .0, λ m u v. q .1 .1 .1 m u (omega arith)))
       (λ q.
       let e : q .0 ≡ j - 1 = omega arith in (
         omega arith,
         (
-          subst (λ k. T (meets reads (f k) c)) e (q .3),
-          (subst (λ k. T (meets reads (f k) b)) e (q .4), λ m u v. q .5 m u (omega arith)),
+          subst (λ k. T (satisfies reads (f k) c)) e (q .3),
+          (subst (λ k. T (satisfies reads (f k) b)) e (q .4), λ m u v. q .5 m u (omega arith)),
         ),
       ))
   is-match κ (cat r s) f i j =
@@ -87,17 +87,17 @@ module _ {A S : Type 0} (reads : A → S → Bool) where
   is-match κ (plus r) f i j = is-plus (is-match κ r f) (match-le reads κ r f) (j - i) i j (omega arith)
   is-match κ (clocked c r) f i j = is-match (on c) r f i j
 
-  top-meets : (b : Bexp A) (x : Cell S) → T (isTop x) → T (meets reads x b)
-  unfolding meets
-  top-meets b (real s) t = absurd t
-  top-meets b top t = tt
-  top-meets b bot t = t
-  top-meets b end t = t
+  top-satisfies : (b : Bexp A) (x : Cell S) → T (isTop x) → T (satisfies reads x b)
+  unfolding satisfies
+  top-satisfies b (real s) t = absurd t
+  top-satisfies b top t = tt
+  top-satisfies b bot t = t
+  top-satisfies b end t = t
 
   -- letters i to e - 1 of f, then one or more ⊤, match r; f has only ⊤ from e on
   unfoldable pub topB : Clock A → Seq A → Word S → ℕ → ℕ → Bool
   topB free (one b) f e i = eqb i e
-  topB (on c) (one b) f e i = every (λ m. meets reads (f m) (nott c)) i (e - i)
+  topB (on c) (one b) f e i = every (λ m. satisfies reads (f m) (nott c)) i (e - i)
   topB κ (cat r s) f e i =
       let u = topB κ r f e i && (matchB κ s f e e || topB κ s f e e) in
       some (λ m. let t = topB κ s f e m in matchB κ r f i m && t) i (suc (e - i)) || u
@@ -121,14 +121,14 @@ module _ {A S : Type 0} (reads : A → S → Bool) where
       carry reads κ r f f i k i j k (j + k - i) (omega arith) (omega arith) (λ p q z x y. top-above (f p) (f q) (h q (omega arith))) m
 
   pub is-top : (κ : Clock A) (r : Seq A) (f : Word S) (e : ℕ) → AllTop f e → (i : ℕ) → i ≤ e → Tells (topB κ r f e i) (Past κ r f e i)
-  unfolding topB matchB Match meets
+  unfolding topB matchB Match satisfies
   is-top free (one b) f e h i u =
-      is-map (is-eq i e) (λ z. (suc e, omega arith, (omega arith, top-meets b (f i) (h i (omega arith))))) (λ q. omega arith)
+      is-map (is-eq i e) (λ z. (suc e, omega arith, (omega arith, top-satisfies b (f i) (h i (omega arith))))) (λ q. omega arith)
   is-top (on c) (one b) f e h i u =
-      is-map (is-every i (e - i) (λ m u v. is-test (meets reads (f m) (nott c))))
+      is-map (is-every i (e - i) (λ m u v. is-test (satisfies reads (f m) (nott c))))
       (λ t.
       let x = h e (omega arith) in
-      (suc e, omega arith, (e, refl, u, top-meets c (f e) x, top-meets b (f e) x, λ m a l. t m a (omega arith))))
+      (suc e, omega arith, (e, refl, u, top-satisfies c (f e) x, top-satisfies b (f e) x, λ m a l. t m a (omega arith))))
       (λ q m v w. q .2 .5 m v (omega arith))
   is-top κ (cat r s) f e h i u =
       is-map

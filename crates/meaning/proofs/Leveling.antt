@@ -5,16 +5,16 @@ use Prim.Native.Nat.{ℕ, zero-le}
 use Rattle.meaning.specs.Syntax.{Prop, strong, weak, neg, either, both, implies, next, until, under, Seq, Clock, free, on}
 use Rattle.meaning.specs.Words.{top, word, none, tops, bots}
 use Rattle.meaning.specs.Levels.{levelOf}
-use Rattle.meaning.specs.Meaning.{meets, value, counts, ticks, Topped, Accepted, Neutral, Weakly, Strongly, Level, level3, level2, level1, level0}
-use Rattle.tests.specs.Tests.{Tells, some, every}
-use Rattle.tests.proofs.Telling.{is-and}
+use Rattle.meaning.specs.Meaning.{satisfies, value, counts, ticks, Topped, Accepted, Neutral, Weakly, Strongly, Level, level3, level2, level1, level0}
+use Rattle.telling.specs.Tests.{Tells, some, every}
+use Rattle.telling.proofs.Telling.{is-and}
 use Rattle.meaning.proofs.Eval.{topB, matchB, plusB, is-top}
 use Rattle.meaning.proofs.Answers.{ansB, is-ans, strongB, weakB, inB, secondB}
 
 module _ {A S : Type 0} (reads : A → S → Bool) where
   -- (the line lets whoever unfolds `levelB` compute it)
   unfoldable pub levelB : Prop A → List S → ℕ
-  unfolding ansB strongB weakB inB secondB topB matchB plusB some every meets value counts ticks word
+  unfolding ansB strongB weakB inB secondB topB matchB plusB some every satisfies value counts ticks word
   levelB P xs = levelOf (ansB reads free P xs bots 0) (ansB reads free P xs none 0) (ansB reads free P xs tops 0)
 
   -- three tests that decide the answers give the level
@@ -29,7 +29,7 @@ module _ {A S : Type 0} (reads : A → S → Bool) where
   level-ok P xs = level-from {P = P} {xs = xs} (is-ans reads free P xs bots 0 zero-le) (is-ans reads free P xs none 0 zero-le) (is-ans reads free P xs tops 0 zero-le)
 
   unfoldable pub toppedB : Clock A → Seq A → Bool
-  unfolding topB matchB plusB some every meets value
+  unfolding topB matchB plusB some every satisfies value
   toppedB κ r = topB reads κ r (λ p. top) 0 0
 
   pub is-topped : (κ : Clock A) (r : Seq A) → Tells (toppedB κ r) (Topped reads κ r)

@@ -9,8 +9,8 @@ use Rattle.meaning.specs.Syntax.{Bexp, Seq, Prop, strong, weak, neg, eit
 use Rattle.meaning.specs.Words.{Cell, real, top, bot, end, Word, inside, isBot, bar, cut, NoBot}
 use Rattle.meaning.proofs.Cells.{isTop}
 use Rattle.meaning.specs.Meaning.{counts, ticks, Second, Strong, Sat, Topped, Accepted}
-use Rattle.meaning.proofs.Order.{Below, from-bot, to-top, same, below-flip, top-above, Keeps, from-real, stay, Proper, proper-bar, below-meets, match-mono}
-use Rattle.tests.proofs.Telling.{side}
+use Rattle.meaning.proofs.Order.{Below, from-bot, to-top, same, below-flip, top-above, Keeps, from-real, stay, Proper, proper-bar, below-satisfies, match-mono}
+use Rattle.telling.proofs.Telling.{side}
 use Rattle.meaning.proofs.Tails.{cut-in, cut-out, cut-top, top-ticks, bot-ticks, topped-strong, ends}
 
 abbrev pub _⊑_ : {S : Type 0} → Word S → Word S → Type 0
@@ -73,7 +73,7 @@ module _ {A S : Type 0} (reads : A → S → Bool) where
   below-counts : {x y : Cell S} (κ : Clock A) → Below x y → T (counts reads κ x) → T (counts reads κ y)
   unfolding counts
   below-counts free h t = tt
-  below-counts (on c) h t = below-meets reads c h t
+  below-counts (on c) h t = below-satisfies reads c h t
 
   tick-up : {x y : Cell S} (c : Bexp A) → Below x y → T (ticks reads c x) → T (ticks reads c y) ⊎ T (isTop y)
   unfolding ticks

@@ -5,11 +5,11 @@ use mathlib.Core.Logic.{_⊎_, inl, inr, ⊎-elim}
 use Prim.Native.Nat.{ℕ, suc, _+_, _-_, _≤_, _<_}
 use native.Mathlib.Omega.{arith}
 use lib.Dec.{T}
-use Rattle.tests.proofs.Telling.{side}
+use Rattle.telling.proofs.Telling.{side}
 use Rattle.meaning.specs.Syntax.{Bexp, nott, Seq, one, cat, fuse, alt, empty, plus, clocked, Clock, free, on}
 use Rattle.meaning.specs.Words.{Cell, real, top, bot, end, Word, flip, bar}
 use Rattle.meaning.proofs.Cells.{alive, isTop}
-use Rattle.meaning.specs.Meaning.{Plus, last, more, meets, Match}
+use Rattle.meaning.specs.Meaning.{Plus, last, more, satisfies, Match}
 
 pub data Below {S : Type 0} : Cell S → Cell S → Type 0 where
   from-bot : {y : Cell S} → Below bot y
@@ -65,11 +65,11 @@ plus-carry c d lo hi z le f (more {i = i} {m = m} {j = j} a q) i′ j′ u v e e
 
 module _ {A S : Type 0} (reads : A → S → Bool) where
   -- a higher letter satisfies more
-  pub below-meets : {x y : Cell S} (b : Bexp A) → Below x y → T (meets reads x b) → T (meets reads y b)
-  unfolding meets
-  below-meets b from-bot t = absurd t
-  below-meets b to-top t = tt
-  below-meets b same t = t
+  pub below-satisfies : {x y : Cell S} (b : Bexp A) → Below x y → T (satisfies reads x b) → T (satisfies reads y b)
+  unfolding satisfies
+  below-satisfies b from-bot t = absurd t
+  below-satisfies b to-top t = tt
+  below-satisfies b same t = t
 
   pub match-le : (κ : Clock A) (r : Seq A) (w : Word S) (i j : ℕ) → Match reads κ r w i j → i ≤ j
   unfolding Match
@@ -87,16 +87,16 @@ module _ {A S : Type 0} (reads : A → S → Bool) where
   pub carry : (κ : Clock A) (r : Seq A) (f g : Word S) (c d i j i′ j′ : ℕ) → i′ + c ≡ i + d → j′ + c ≡ j + d
       → ((p q : ℕ) → q + c ≡ p + d → i ≤ p → p < j → Below (f p) (g q)) → Match reads κ r f i j → Match reads κ r g i′ j′
   unfolding Match
-  carry free (one b) f g c d i j i′ j′ e e′ up h = (omega arith, below-meets b (up i i′ e (omega arith) (omega arith)) (h .1))
+  carry free (one b) f g c d i j i′ j′ e e′ up h = (omega arith, below-satisfies b (up i i′ e (omega arith) (omega arith)) (h .1))
   carry (on t) (one b) f g c d i j i′ j′ e e′ up (k, x, y, tc, tb, early) =
       let at = up k (k + d - c) (omega arith) (omega arith) (omega arith) in (
         k + d - c,
         omega arith,
         omega arith,
-        below-meets t at tc,
-        below-meets b at tb,
+        below-satisfies t at tc,
+        below-satisfies b at tb,
         λ m a z.
-            below-meets (nott t) (up (m + c - d) m (omega arith) (omega arith) (omega arith)) (early (m + c - d) (omega arith) (omega arith)),
+            below-satisfies (nott t) (up (m + c - d) m (omega arith) (omega arith) (omega arith)) (early (m + c - d) (omega arith) (omega arith)),
       )
   carry κ (cat r s) f g c d i j i′ j′ e e′ up (m, a, b) =
       let x = match-le κ r f i m a in
@@ -127,22 +127,22 @@ module _ {A S : Type 0} (reads : A → S → Bool) where
   match-mono κ r f g i j up h =
       carry κ r f g 0 0 i j i j (omega arith) (omega arith) (λ p q e u v. subst (λ x. Below (f p) (g x)) (omega arith) (up p u v)) h
 
-  meets-alive : (x : Cell S) (b : Bexp A) → T (meets reads x b) → T (alive x)
-  unfolding meets
-  meets-alive (real s) b t = tt
-  meets-alive top b t = tt
-  meets-alive bot b t = t
-  meets-alive end b t = t
+  satisfies-alive : (x : Cell S) (b : Bexp A) → T (satisfies reads x b) → T (alive x)
+  unfolding satisfies
+  satisfies-alive (real s) b t = tt
+  satisfies-alive top b t = tt
+  satisfies-alive bot b t = t
+  satisfies-alive end b t = t
 
   -- no match holds a ⊥ letter, and none goes past the end
   pub match-alive : (κ : Clock A) (r : Seq A) (w : Word S) (i j : ℕ) → Match reads κ r w i j → (p : ℕ) → i ≤ p → p < j → T (alive (w p))
   unfolding Match
-  match-alive free (one b) w i j (e, t) p u v = subst (λ x. T (alive (w x))) (omega arith) (meets-alive (w i) b t)
+  match-alive free (one b) w i j (e, t) p u v = subst (λ x. T (alive (w x))) (omega arith) (satisfies-alive (w i) b t)
   match-alive (on c) (one b) w i j (k, e, l, tc, tb, early) p u v = go (side p k)
     where
       go : (p < k) ⊎ (k ≤ p) → T (alive (w p))
-      go (inl x) = meets-alive (w p) (nott c) (early p u x)
-      go (inr x) = subst (λ x. T (alive (w x))) (omega arith) (meets-alive (w k) c tc)
+      go (inl x) = satisfies-alive (w p) (nott c) (early p u x)
+      go (inr x) = subst (λ x. T (alive (w x))) (omega arith) (satisfies-alive (w k) c tc)
   match-alive κ (cat r s) w i j (m, a, b) p u v =
       ⊎-elim (λ x. match-alive κ r w i m a p u x) (λ x. match-alive κ s w m j b p x v) (side p m)
   match-alive κ (fuse r s) w i j (m, x, y, a, b) p u v =

@@ -11,12 +11,12 @@ use lib.ListN.{length}
 use Rattle.meaning.specs.Syntax.{Bexp, nott, andd, Seq, one, cat, fuse, alt, empty, plus, clocked, Prop, strong, weak, neg, either, both, implies, next, until, under, Clock, free, on}
 use Rattle.meaning.specs.Words.{Cell, real, top, bot, end, Word, inside, isBot, flip, bar, cut, NoBot, word, Tail, none, tops, bots, other}
 use Rattle.meaning.proofs.Cells.{isTop}
-use Rattle.meaning.specs.Meaning.{Plus, last, more, value, meets, Match, counts, ticks, Second, Strong, Sat, Topped, Accepted, Level, level3, level2, level1, level0}
+use Rattle.meaning.specs.Meaning.{Plus, last, more, value, satisfies, Match, counts, ticks, Second, Strong, Sat, Topped, Accepted, Level, level3, level2, level1, level0}
 use Rattle.meaning.specs.Rewriting.{tickS, rewS, now, seek, rewP}
-use Rattle.tests.proofs.Telling.{side, is-test, is-true, is-false, is-and, is-not, test}
+use Rattle.telling.proofs.Telling.{side, is-test, is-true, is-false, is-and, is-not, test}
 use Rattle.meaning.proofs.Tails.{bot-inside}
 use Rattle.meaning.proofs.Closed.{bar-word}
-use Rattle.tests.specs.Tests.{Tells}
+use Rattle.telling.specs.Tests.{Tells}
 use Rattle.meaning.proofs.Answers.{word-out, word-inside, word-not-bot, out-ticks, botted, decided, no-bot}
 
 plus-map : {M N : ℕ → ℕ → Type 0} → ((a b : ℕ) → M a b → N a b) → {i j : ℕ} → Plus M i j → Plus N i j
@@ -48,12 +48,12 @@ first F (suc n) i =
     (test (F i))
 
 module _ {A S : Type 0} (reads : A → S → Bool) where
-  is-meets : (x : Cell S) (b c : Bexp A) → Tells (meets reads x (andd b c)) (T (meets reads x b) × T (meets reads x c))
-  unfolding meets value
-  is-meets (real s) b c = is-and (is-test (value reads b s)) (is-test (value reads c s))
-  is-meets top b c = is-true (tt, tt)
-  is-meets bot b c = is-false (λ q. q .0)
-  is-meets end b c = is-false (λ q. q .0)
+  is-satisfies : (x : Cell S) (b c : Bexp A) → Tells (satisfies reads x (andd b c)) (T (satisfies reads x b) × T (satisfies reads x c))
+  unfolding satisfies value
+  is-satisfies (real s) b c = is-and (is-test (value reads b s)) (is-test (value reads c s))
+  is-satisfies top b c = is-true (tt, tt)
+  is-satisfies bot b c = is-false (λ q. q .0)
+  is-satisfies end b c = is-false (λ q. q .0)
 
   tick-iff : (c b : Bexp A) (w : Word S) (i j : ℕ) → Match reads (on c) (one b) w i j ↔ Match reads free (tickS c b) w i j
   unfolding Match
@@ -61,14 +61,14 @@ module _ {A S : Type 0} (reads : A → S → Bool) where
     λ h.
         let (k, e, l, x, y, z) = h in (
           k,
-          ⊎-elim (λ q. inl q) (λ q. inr (run-in (λ m. meets reads (w m) (nott c)) (k - 1 - i) i k (omega arith) z)) (eq-or-lt-of-le l),
-          (e, is-meets (w k) c b .from (x, y)),
+          ⊎-elim (λ q. inl q) (λ q. inr (run-in (λ m. satisfies reads (w m) (nott c)) (k - 1 - i) i k (omega arith) z)) (eq-or-lt-of-le l),
+          (e, is-satisfies (w k) c b .from (x, y)),
         ),
     λ h.
         let (k, x, (e, t)) = h in
-        let (y, z) = is-meets (w k) c b .to t in
+        let (y, z) = is-satisfies (w k) c b .to t in
         ⊎-elim (λ q. (k, e, omega arith, y, z, λ m u v. absurd (omega arith)))
-        (λ q. let (u, v) = run-out (λ m. meets reads (w m) (nott c)) q in (k, e, omega arith, y, z, v)) x,
+        (λ q. let (u, v) = run-out (λ m. satisfies reads (w m) (nott c)) q in (k, e, omega arith, y, z, v)) x,
   )
 
   -- a sequence and its rewriting match the same stretches of every word
@@ -97,7 +97,7 @@ module _ {A S : Type 0} (reads : A → S → Bool) where
   strong-rew κ r w i =
       (λ h. let (j, l, m) = h in (j, l, match-rew κ r w i j .0 m), λ h. let (j, l, m) = h in (j, l, match-rew κ r w i j .1 m))
 
-  now-iff : (b : Bexp A) (w : Word S) (i : ℕ) → Sat reads free (now b) w i ↔ T (meets reads (w i) b)
+  now-iff : (b : Bexp A) (w : Word S) (i : ℕ) → Sat reads free (now b) w i ↔ T (satisfies reads (w i) b)
   unfolding Sat Strong Match
   now-iff b w i = (λ h. h .2 .1, λ t. (suc i, omega arith, (refl, t)))
 
@@ -105,36 +105,36 @@ module _ {A S : Type 0} (reads : A → S → Bool) where
   stable κ P xs t i h = ⊎-elim (λ x. x) (λ x. absurd (h x)) (decided reads κ P xs t i)
 
   -- the cells
-  tick-meets : (c : Bexp A) (x : Cell S) → T (ticks reads c x) → T (meets reads x c)
-  unfolding ticks meets
-  tick-meets c (real s) t = t
-  tick-meets c top t = tt
-  tick-meets c bot t = t
-  tick-meets c end t = t
+  tick-satisfies : (c : Bexp A) (x : Cell S) → T (ticks reads c x) → T (satisfies reads x c)
+  unfolding ticks satisfies
+  tick-satisfies c (real s) t = t
+  tick-satisfies c top t = tt
+  tick-satisfies c bot t = t
+  tick-satisfies c end t = t
 
-  meets-tick : (c : Bexp A) (x : Cell S) → T (meets reads x c) → T (ticks reads c x) ⊎ T (isTop x)
-  unfolding ticks meets
+  meets-tick : (c : Bexp A) (x : Cell S) → T (satisfies reads x c) → T (ticks reads c x) ⊎ T (isTop x)
+  unfolding ticks satisfies
   meets-tick c (real s) t = inl t
   meets-tick c top t = inr tt
   meets-tick c bot t = absurd t
   meets-tick c end t = absurd t
 
-  idle : (c : Bexp A) (x : Cell S) → T (not (ticks reads c x)) → T (inside x) → T (not (isBot x)) → T (meets reads x (nott c))
-  unfolding ticks meets value
+  idle : (c : Bexp A) (x : Cell S) → T (not (ticks reads c x)) → T (inside x) → T (not (isBot x)) → T (satisfies reads x (nott c))
+  unfolding ticks satisfies value
   idle c (real s) t u v = t
   idle c top t u v = tt
   idle c bot t u v = v
   idle c end t u v = u
 
-  quiet : (c : Bexp A) (x : Cell S) → T (meets reads x (nott c)) → T (ticks reads c x) → ⊥
-  unfolding ticks meets value
+  quiet : (c : Bexp A) (x : Cell S) → T (satisfies reads x (nott c)) → T (ticks reads c x) → ⊥
+  unfolding ticks satisfies value
   quiet c (real s) t u = T-not (value reads c s) t u
   quiet c top t u = u
   quiet c bot t u = u
   quiet c end t u = u
 
-  bot-deaf : (b : Bexp A) (x : Cell S) → T (isBot x) → T (meets reads x b) → ⊥
-  unfolding meets
+  bot-deaf : (b : Bexp A) (x : Cell S) → T (isBot x) → T (satisfies reads x b) → ⊥
+  unfolding satisfies
   bot-deaf b (real s) t u = t
   bot-deaf b top t u = t
   bot-deaf b bot t u = u
@@ -185,14 +185,14 @@ module _ {A S : Type 0} (reads : A → S → Bool) where
         word-inside xs t j (omega arith),
         tt,
         (
-          now-iff c w j .1 (tick-meets c (w j) tj),
+          now-iff c w j .1 (tick-satisfies c (w j) tj),
           inr
               (inl (
                 k,
                 jk,
                 word-inside xs t k kn,
                 tt,
-                (now-iff c w k .1 (tick-meets c (w k) tk), ih k .0 s),
+                (now-iff c w k .1 (tick-satisfies c (w k) tk), ih k .0 s),
                 λ m u v _. calm m (omega arith) v (λ e. omega arith),
               )),
         ),
@@ -212,7 +212,7 @@ module _ {A S : Type 0} (reads : A → S → Bool) where
         word-inside xs t j jn,
         tt,
         (
-          now-iff c w j .1 (tick-meets c (w j) tj),
+          now-iff c w j .1 (tick-satisfies c (w j) tj),
           inr
               (⊎-elim
               (λ y.
@@ -266,7 +266,7 @@ module _ {A S : Type 0} (reads : A → S → Bool) where
       (meets-tick c (w k) (now-iff c w k .0 ck))
   second-back c P P′ xs t i j ij tj hush ih (inr s) =
       let w = word xs t in
-      let deaf : (m : ℕ) → j < m → T (inside (w m)) → T (meets reads (w m) (nott c)) = λ m l x. now-iff (nott c) w m .0 (s m l x tt) in
+      let deaf : (m : ℕ) → j < m → T (inside (w m)) → T (satisfies reads (w m) (nott c)) = λ m l x. now-iff (nott c) w m .0 (s m l x tt) in
       inr (
         one-tick c w i j
             (λ m u h.
@@ -280,7 +280,7 @@ module _ {A S : Type 0} (reads : A → S → Bool) where
   nextc-back : (c : Bexp A) (P P′ : Prop A) (xs : List S) (t : Tail) (i : ℕ)
       → ((k : ℕ) → Sat reads (on c) P (word xs t) k ↔ Sat reads free P′ (word xs t) k)
       → Sat reads free (seek c (next (seek c P′))) (word xs t) i → Sat reads (on c) (next P) (word xs t) i
-  unfolding Sat Second NoBot counts meets
+  unfolding Sat Second NoBot counts satisfies
   nextc-back c P P′ xs t i ih (inr s) =
       let w = word xs t in
       let hush : (m : ℕ) → i ≤ m → T (ticks reads c (w m)) → ⊥ =
@@ -354,9 +354,9 @@ module _ {A S : Type 0} (reads : A → S → Bool) where
   sat-rew (on c) (until P Q) xs t i =
       let w = word xs t in
       let P′ = rewP (on c) P in
-      let there : (k : ℕ) → (T (meets reads (flip (w k)) c) → Sat reads (on c) P w k) → (Sat reads free (now c) (bar w) k × (¬ Sat reads free P′ (bar (bar w)) k)) → ⊥ =
+      let there : (k : ℕ) → (T (satisfies reads (flip (w k)) c) → Sat reads (on c) P w k) → (Sat reads free (now c) (bar w) k × (¬ Sat reads free P′ (bar (bar w)) k)) → ⊥ =
       λ k h s. s .1 (subst (λ v. Sat reads free P′ v k) (sym (bar-bar w)) (sat-rew (on c) P xs t k .0 (h (now-iff c (bar w) k .0 (s .0))))) in
-      let back : (k : ℕ) → ((Sat reads free (now c) (bar w) k × (¬ Sat reads free P′ (bar (bar w)) k)) → ⊥) → T (meets reads (flip (w k)) c) → Sat reads (on c) P w k =
+      let back : (k : ℕ) → ((Sat reads free (now c) (bar w) k × (¬ Sat reads free P′ (bar (bar w)) k)) → ⊥) → T (satisfies reads (flip (w k)) c) → Sat reads (on c) P w k =
       λ k h z.
       stable (on c) P xs t k
       (λ n. h (now-iff c (bar w) k .1 z, λ s. n (sat-rew (on c) P xs t k .1 (subst (λ v. Sat reads free P′ v k) (bar-bar w) s)))) in (
@@ -374,7 +374,7 @@ module _ {A S : Type 0} (reads : A → S → Bool) where
   sat-rew κ (under c P) xs t i = sat-rew (on c) P xs t i
 
   now-topped : (b : Bexp A) → Topped reads free (one b)
-  unfolding Topped Match meets
+  unfolding Topped Match satisfies
   now-topped b = (1, omega arith, (refl, tt))
 
   topped-rew : (κ : Clock A) (r : Seq A) → Topped reads κ r → Topped reads free (rewS κ r)

@@ -10,7 +10,7 @@ use Rattle.meaning.specs.Syntax.{Bexp, Seq, Prop, strong, weak, neg, eit
 use Rattle.meaning.specs.Words.{Word, inside, isBot, flip, bar, cut, suffix, NoBot}
 use Rattle.meaning.specs.Meaning.{Match, counts, ticks, Second, Strong, Sat}
 use Rattle.meaning.proofs.Order.{Below, same, carry}
-use Rattle.tests.proofs.Telling.{side}
+use Rattle.telling.proofs.Telling.{side}
 use Rattle.meaning.proofs.Tails.{cut-in, cut-out}
 
 -- w from i on is v from j on

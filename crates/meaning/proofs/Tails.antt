@@ -8,7 +8,7 @@ use lib.Dec.{T, T-not, ltb, lt→ltb, ltb→lt}
 use Rattle.meaning.specs.Syntax.{Bexp, Seq, Prop, strong, weak, neg, either, both, implies, next, until, under, Clock, free, on}
 use Rattle.meaning.specs.Words.{Cell, real, top, bot, end, Word, inside, isBot, flip, bar, cut, NoBot}
 use Rattle.meaning.proofs.Cells.{alive, isTop}
-use Rattle.meaning.specs.Meaning.{meets, Match, counts, ticks, Second, Strong, Sat, Topped, Accepted}
+use Rattle.meaning.specs.Meaning.{satisfies, Match, counts, ticks, Second, Strong, Sat, Topped, Accepted}
 use Rattle.meaning.proofs.Order.{top-above, carry, match-alive}
 
 abbrev pub AllTop : {S : Type 0} → Word S → ℕ → Type 0
@@ -83,7 +83,7 @@ module _ {A S : Type 0} (reads : A → S → Bool) where
 
   -- where w has ⊥ the bar counts
   bot-counts : (κ : Clock A) (x : Cell S) → T (isBot x) → T (counts reads κ (flip x))
-  unfolding counts meets
+  unfolding counts satisfies
   bot-counts free x t = tt
   bot-counts (on c) (real s) t = absurd t
   bot-counts (on c) top t = absurd t

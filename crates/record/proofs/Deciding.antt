@@ -12,7 +12,7 @@ use Rattle.refusal.specs.Computed.{Case, at0, firstCase, headingCases}
 use Rattle.refusal.specs.Heading.{count, headingRefusals}
 use Rattle.refusal.proofs.Deciding.{Decides, answers, decided-when, decides-append}
 use Rattle.refusal.proofs.Headings.{decides-heading}
-use Rattle.tests.proofs.Telling.{is-not, is-eq, is-lt}
+use Rattle.telling.proofs.Telling.{is-not, is-eq, is-lt}
 use Rattle.record.specs.declared.Reading.{Reading}
 use Rattle.record.specs.Record.{refusals, Reads}
 

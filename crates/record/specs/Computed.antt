@@ -4,5 +4,5 @@ use Rattle.refusal.specs.Computed.{refused}
 use Rattle.record.specs.declared.Reading.{Reading}
 
 -- its number and node, with count 0
-abbrev pub refusing : ℕ → ℕ → Reading
-refusing number node = record { verdict = refused number node; count = 0 }
+abbrev pub refusedReading : ℕ → ℕ → Reading
+refusedReading number node = record { verdict = refused number node; count = 0 }

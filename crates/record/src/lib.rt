@@ -5,7 +5,7 @@ ghost use Prim.Native.Nat.{_+_, _*_, _<_, _≤_};
 ghost use lib.ListN.{length, take, drop};
 ghost use Rattle.refusal.specs.Heading.{number};
 ghost use Rattle.record.specs.Record.{sampleAt, samples, Reads};
-ghost use Rattle.record.specs.Computed.{refusing};
+ghost use Rattle.record.specs.Computed.{refusedReading};
 use refusal::Verdict;
 use refusal::wide;
 
@@ -55,7 +55,7 @@ fn put_samples(b: &[u8], n: usize, out: &mut [u64])
 
 // A refusal: no sample is written.
 fn refused(number: u8, node: usize) -> Reading
-    ensures { λ r. ⌜ r ≡ refusing number node ⌝ }
+    ensures { λ r. ⌜ r ≡ refusedReading number node ⌝ }
 {
     Reading {
         verdict: Verdict { number, node },

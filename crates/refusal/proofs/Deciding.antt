@@ -9,8 +9,8 @@ use Prim.Native.Nat.{ℕ, zero, suc, _+_, _-_, _≤_, _<_}
 use native.Mathlib.Nat.{sub-zero, zero-add, add-zero, not-suc-le-zero, le-of-suc-le-suc, suc-add, add-suc, le-antisymm, lt-of-not-le}
 use native.Mathlib.Omega.{arith}
 use lib.Dec.{T, ltb}
-use Rattle.tests.specs.Tests.{Tells}
-use Rattle.tests.proofs.Telling.{passes, passed, is-and, is-lt, is-test}
+use Rattle.telling.specs.Tests.{Tells}
+use Rattle.telling.proofs.Telling.{passes, passed, is-and, is-lt, is-test}
 use Rattle.refusal.specs.declared.Verdict.{Verdict}
 use Rattle.refusal.specs.First.{Refusal, LowestSuch, when, atLowest, Answers, NotGiven, FirstGiven}
 use Rattle.refusal.specs.Computed.{firstOf, first, Case, at0, atFirst, firstCase, refused, accepted}

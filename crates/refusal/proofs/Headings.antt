@@ -9,8 +9,8 @@ use native.Mathlib.Omega.{arith}
 use lib.Dec.{T}
 use lib.ListN.{length, getD, take}
 use lib.Seq.{getD-take}
-use Rattle.tests.specs.Tests.{Tells}
-use Rattle.tests.proofs.Telling.{is-map, is-and, is-not, is-eq, is-lt}
+use Rattle.telling.specs.Tests.{Tells}
+use Rattle.telling.proofs.Telling.{is-map, is-and, is-not, is-eq, is-lt}
 use Rattle.refusal.specs.declared.Verdict.{Verdict}
 use Rattle.refusal.specs.Computed.{Case, firstCase, headingCases, isMarked, isVersionOne}
 use Rattle.refusal.specs.First.{Answers}

@@ -7,8 +7,8 @@ use mathlib.Core.List.{List, [], _∷_, map}
 use Prim.Native.Nat.{ℕ, zero, suc, _+_, _<_}
 use lib.Dec.{T, eqb}
 use lib.ListN.{length, getD}
-use Rattle.tests.specs.Tests.{Tells}
-use Rattle.tests.proofs.Telling.{is-and, is-not, is-eq}
+use Rattle.telling.specs.Tests.{Tells}
+use Rattle.telling.proofs.Telling.{is-and, is-not, is-eq}
 use Rattle.table.specs.declared.nodes.Raw.{Raw}
 use Rattle.table.specs.Operators.{none, boolean, property, operators, lookup, rowOf, bytes, bytesOf, booleanBytes, sequenceBytes, propertyBytes}
 use Rattle.table.specs.Nodes.{sortAt, Operand}

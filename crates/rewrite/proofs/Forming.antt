@@ -9,7 +9,7 @@ use mathlib.Core.List.{List}
 use Prim.Native.Nat.{ℕ, _+_, _<_, _≤_}
 use lib.Dec.{eqb}
 use lib.ListN.{length, getD}
-use Rattle.tests.proofs.Telling.{side}
+use Rattle.telling.proofs.Telling.{side}
 use Rattle.refusal.specs.Heading.{count}
 use Rattle.table.specs.declared.nodes.Raw.{Raw}
 use Rattle.table.specs.Operators.{none, boolean, sequence, property, operators, lookup, rowOf}

@@ -11,7 +11,7 @@ use Prim.Native.Nat.{ℕ, suc, _-_, _<_, _≤_}
 use lib.Dec.{eqb, ltb}
 use lib.ListN.{length, getD, set, replicate, length-set, getD-replicate}
 use lib.Seq.{getD-set-same, getD-set-other}
-use Rattle.tests.proofs.Telling.{side}
+use Rattle.telling.proofs.Telling.{side}
 use Rattle.refusal.specs.Heading.{count}
 use Rattle.table.specs.declared.operators.Row.{Row}
 use Rattle.table.specs.declared.nodes.Raw.{Raw}
@@ -25,11 +25,11 @@ use Rattle.table.proofs.Placing.{part-below, part-sort, whole-sort, one-above}
 use Rattle.table.proofs.Clocking.{clock-exists, clock-inside}
 use Rattle.rewrite.specs.Clocks.{ClockIs, from-above, none-above, Clocks}
 use Rattle.rewrite.specs.Numbers.{isClock}
-use Rattle.rewrite.specs.Computed.{Ready, refOf, clockBy, partOf}
+use Rattle.rewrite.specs.Computed.{Passed, refOf, clockBy, partOf}
 use Rattle.rewrite.proofs.Timing.{handed-by-row, clock-row, clocks-exist}
 
 -- what the tests of a table gave
-pub built : {s : List ℕ} → Ready s → Built s
+pub built : {s : List ℕ} → Passed s → Built s
 built {s} h = sound s _ (h .checks) refl .formed
 
 -- ---- the array

@@ -9,7 +9,7 @@ use mathlib.Core.List.{List, []}
 use Prim.Native.Nat.{ℕ, zero, suc, _+_, _*_, _-_, _<_, _≤_}
 use lib.Dec.{leb}
 use lib.ListN.{length, length-append}
-use Rattle.tests.proofs.Telling.{is-or, is-test, is-le, failed}
+use Rattle.telling.proofs.Telling.{is-or, is-test, is-le, failed}
 use Rattle.refusal.specs.Heading.{count}
 use Rattle.table.specs.declared.operators.Row.{Row}
 use Rattle.table.specs.declared.nodes.Raw.{Raw}

@@ -8,7 +8,7 @@ use mathlib.Core.Bool.{Bool, true, false, cond}
 use mathlib.Core.List.{List}
 use Prim.Native.Nat.{ℕ, zero, suc, _+_, _-_, _<_, _≤_}
 use lib.ListN.{length}
-use Rattle.tests.proofs.Telling.{side}
+use Rattle.telling.proofs.Telling.{side}
 use Rattle.refusal.specs.Heading.{count}
 use Rattle.table.specs.Operators.{boolean, sequence}
 use Rattle.table.specs.Nodes.{rawAt, rowAt, sortAt, WellFormed}

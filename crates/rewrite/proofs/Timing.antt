@@ -7,8 +7,8 @@ use mathlib.Core.Bool.{Bool, true, false, not, cond, _&&_, _||_, Bool·beq}
 use mathlib.Core.List.{List, map}
 use Prim.Native.Nat.{ℕ, _<_, _≤_}
 use lib.Dec.{T, eqb, leb}
-use Rattle.tests.specs.Tests.{Tells}
-use Rattle.tests.proofs.Telling.{is-or, is-and, is-not, is-eq, is-le, side}
+use Rattle.telling.specs.Tests.{Tells}
+use Rattle.telling.proofs.Telling.{is-or, is-and, is-not, is-eq, is-le, side}
 use Rattle.refusal.specs.Heading.{count}
 use Rattle.table.specs.declared.operators.Row.{Row}
 use Rattle.table.specs.declared.nodes.Node.{Node}

@@ -22,7 +22,7 @@ use Rattle.rewrite.specs.Blocks.{underBlock}
 
 -- ---- what is known of the table, of an array of clocks and of an array of new numbers
 
-pub record Ready (s : List ℕ) : Type 0 where
+pub record Passed (s : List ℕ) : Type 0 where
   pub checks : Checks s accepted
   pub few : count s ≤ 120
   pub long : 4 * count s + 6 ≤ length s
@@ -42,7 +42,7 @@ unfoldable pub partOf : ℕ → ℕ → ℕ
 partOf sort v = cond (ltb sort sequence) 120 (namedBy v)
 
 pub record Timed (s clocks : List ℕ) : Type 0 where
-  pub ready : Ready s
+  pub ready : Passed s
   pub size : length clocks ≡ 121
   pub right : Clocks s (clockBy clocks)
 
@@ -98,5 +98,5 @@ PassFits s clocks pass k at d =
     × (4 * newCount s (clockBy clocks) + 6 ≤ length d)
 
 -- a refusal: its number and node, with count 0
-abbrev pub refusing : ℕ → ℕ → Rewriting
-refusing number node = record { verdict = refused number node; count = 0 }
+abbrev pub refusedRewriting : ℕ → ℕ → Rewriting
+refusedRewriting number node = record { verdict = refused number node; count = 0 }

@@ -10,7 +10,7 @@ ghost use Prim.Native.Nat.{_≤_};
 ghost use lib.Dec.{eqb};
 ghost use Rattle.refusal.specs.Heading.{count};
 ghost use Rattle.rewrite.specs.Clocks.{Clocks};
-ghost use Rattle.rewrite.specs.Computed.{Ready, clockBy, partOf};
+ghost use Rattle.rewrite.specs.Computed.{Passed, clockBy, partOf};
 
 // A clock as a byte: the number of its condition, or this one, which no node has.
 pub const UNCLOCKED: u8 = 255;
@@ -32,7 +32,7 @@ fn handed_down(row: Row, x: u8, own: u8) -> u8
 
 // The clocks of the n nodes, from the root down.
 pub fn clocks_of(b: &[u8], n: usize) -> [u8; 121]
-    requires { ⌜ Ready (now b) × (n ≡ count (now b)) ⌝ }
+    requires { ⌜ Passed (now b) × (n ≡ count (now b)) ⌝ }
     ensures { λ r. ⌜ Clocks (now (b .entry)) (clockBy r) ⌝ }
 {
     let mut clocks = [UNCLOCKED; 121];

@@ -11,7 +11,7 @@ use refusal::Verdict;
 use refusal::wide;
 ghost use mathlib.Core.Path.{_≡_};
 ghost use Rattle.rewrite.specs.Rewrites.{Rewrites};
-ghost use Rattle.rewrite.specs.Computed.{refusing};
+ghost use Rattle.rewrite.specs.Computed.{refusedRewriting};
 
 // What rewriting answers: the verdict, and m, the count of new nodes.
 #[repr(C)]
@@ -22,7 +22,7 @@ pub struct Rewriting {
 
 // A refusal, with count 0.
 pub fn refused(number: u8, node: usize) -> Rewriting
-    ensures { λ r. ⌜ r ≡ refusing number node ⌝ }
+    ensures { λ r. ⌜ r ≡ refusedRewriting number node ⌝ }
 {
     Rewriting {
         verdict: Verdict { number, node },

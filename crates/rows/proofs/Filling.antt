@@ -20,7 +20,7 @@ use Rattle.positions.proofs.Laws.{ext, has-none}
 use Rattle.rows.specs.declared.cells.Suffixes.{Suffixes}
 use Rattle.rows.specs.Shares.{share}
 use Rattle.rows.specs.Bits.{booleanBit, Satisfying}
-use Rattle.rows.specs.Rows.{tab, threeWords, nodeWord, rowOf, rowsOf, laid, filled, None, Stored}
+use Rattle.rows.specs.Rows.{tab, threeWords, nodeWord, nodeRow, rowsOf, withRow, filled, None, Stored}
 use Rattle.rows.proofs.Laying.{word-is, length-tab, getD-tab, laid-is}
 
 -- ---- a row of three words
@@ -28,7 +28,7 @@ use Rattle.rows.proofs.Laying.{word-is, length-tab, getD-tab, laid-is}
 -- the first three words of share k are written, and the others made 0
 pub three-laid : (d out : List ℕ) (k u v w : ℕ) → share * k + share ≤ length d
     → Stored None (set (set (set d (share * k) u) (share * k + 1) v) (share * k + 2) w) (share * k) 3 share out
-    → out ≡ laid d k (tab (threeWords u v w) share)
+    → out ≡ withRow d k (tab (threeWords u v w) share)
 three-laid d out k u v w fits c = laid-is d out k (threeWords u v w) fits (c .long ∙ simp length-set) own others
   where
     one : List ℕ
@@ -65,24 +65,24 @@ three-laid d out k u v w fits c = laid-is d out k (threeWords u v w) fits (c .lo
 -- ---- the rows of the three sorts
 
 pub boolean-laid : (d xs out : List ℕ) (k : ℕ) (op : BooleanOp) (node : Node) (u v w : ℕ) → node ≡ Boolean op → u < 2 ^ 64
-    → Is u (booleanBit (take (share * k) d) xs op) → Is v (λ k. false) → Is w (λ k. false) → out ≡ laid d k (tab (threeWords u v w) share)
-    → out ≡ laid d k (rowOf (take (share * k) d) xs node)
-unfolding rowOf
+    → Is u (booleanBit (take (share * k) d) xs op) → Is v (λ k. false) → Is w (λ k. false) → out ≡ withRow d k (tab (threeWords u v w) share)
+    → out ≡ withRow d k (nodeRow (take (share * k) d) xs node)
+unfolding nodeRow
 boolean-laid d xs out k op node u v w en hu eu ev ew e =
     rw (en, e, word-is u (booleanBit (take (share * k) d) xs op) hu eu, ext v 0 (λ k. ev k ∙ sym (has-none k)), ext w 0 (λ k. ew k ∙ sym (has-none k)))
 
 pub property-laid : (d xs out : List ℕ) (k : ℕ) (op : PropertyOp) (node : Node) (r : Suffixes) → node ≡ Property op
     → r .neutral .bits < 2 ^ 64 → r .weak .bits < 2 ^ 64 → r .strong .bits < 2 ^ 64 → Satisfying (take (share * k) d) (length xs) op r
-    → out ≡ laid d k (tab (threeWords (r .neutral .bits) (r .weak .bits) (r .strong .bits)) share)
-    → out ≡ laid d k (rowOf (take (share * k) d) xs node)
-unfolding rowOf
+    → out ≡ withRow d k (tab (threeWords (r .neutral .bits) (r .weak .bits) (r .strong .bits)) share)
+    → out ≡ withRow d k (nodeRow (take (share * k) d) xs node)
+unfolding nodeRow
 property-laid d xs out k op node r en hu hv hw q e =
     rw (en, e, word-is _ _ hu (q .neutral), word-is _ _ hv (q .weak), word-is _ _ hw (q .strong))
 
 -- ---- the rows of the nodes below k
 
-length-row : (rows xs : List ℕ) (node : Node) → length (rowOf rows xs node) ≡ share
-unfolding rowOf
+length-row : (rows xs : List ℕ) (node : Node) → length (nodeRow rows xs node) ≡ share
+unfolding nodeRow
 length-row rows xs node = length-tab _ share
 
 length-rows : (s xs : List ℕ) (k : ℕ) → length (rowsOf s xs k) ≡ share * k
@@ -100,8 +100,8 @@ filled-take s xs d ws k e = rw e (take-at (rowsOf s xs k) (drop (share * k) d) (
 
 -- a turn of the loop over the nodes: one more row
 pub filled-step : (s xs d : List ℕ) (k : ℕ) (ws out : List ℕ) (node : Node) → ws ≡ filled s xs d k → node ≡ nodeAt s k
-    → out ≡ laid ws k (rowOf (take (share * k) ws) xs node) → out ≡ filled s xs d (k + 1)
-unfolding filled rowsOf laid
+    → out ≡ withRow ws k (nodeRow (take (share * k) ws) xs node) → out ≡ filled s xs d (k + 1)
+unfolding filled rowsOf withRow
 filled-step s xs d k ws out node e en eo =
     let R : List ℕ = rowsOf s xs k in
     let h1 : take (share * k) ws ≡ R = filled-take s xs d ws k e in
@@ -116,7 +116,7 @@ past : (p q : List ℕ) (n i : ℕ) → length p ≡ n → getD (p ++ q) (n + i)
 past p q n i h = rw (← h) (getD-append-add p q i 0)
 
 pub row-at : (s xs : List ℕ) (k a i : ℕ) → a < k → i < share → getD (rowsOf s xs k) (share * a + i) 0 ≡ nodeWord (rowsOf s xs a) xs (nodeAt s a) i
-unfolding rowsOf rowOf
+unfolding rowsOf nodeRow
 row-at s xs zero a i ha hi = absurd (not-suc-le-zero ha)
 row-at s xs (suc k) a i ha hi =
     ⊎-elim

@@ -11,8 +11,8 @@ use lib.ListN.{length, getD, take, drop, length-append, length-take, length-drop
 use lib.Seq.{length-take-le, getD-at, getD-set-same, getD-set-other, getD-take, getD-drop, take-add, ext-getD}
 use Rattle.positions.specs.Member.{Is}
 use Rattle.positions.proofs.Laws.{collected}
-use Rattle.rows.specs.Shares.{share, longest, bitIn, Row}
-use Rattle.rows.specs.Rows.{tab, set64, laid, Stored}
+use Rattle.rows.specs.Shares.{share, longest, bitIn, HasRow}
+use Rattle.rows.specs.Rows.{tab, set64, withRow, Stored}
 
 -- a word by its places
 pub word-is : (w : ℕ) (f : ℕ → Bool) → w < 2 ^ 64 → Is w f → w ≡ set64 f
@@ -46,19 +46,19 @@ drop-same m d out l h =
     ext-getD 0 (drop m out) (drop m d) (rw (length-drop, length-drop, l)) (λ i u. getD-drop m out i 0 ∙ h (m + i) (omega arith) ∙ sym (getD-drop m d i 0))
 
 -- a row below share k
-pub row-taken : (d : List ℕ) (k a : ℕ) → share * k ≤ length d → Row (share * k) a → Row (length (take (share * k) d)) a
+pub row-taken : (d : List ℕ) (k a : ℕ) → share * k ≤ length d → HasRow (share * k) a → HasRow (length (take (share * k) d)) a
 row-taken d k a h r = rw (length-take-le (share * k) d h) r
 
 -- the words of row b, lent as a slice that begins there
-pub row-words : (rows : List ℕ) (b n : ℕ) → Row (length rows) b → n ≤ longest → (m : ℕ) → m ≤ n → Is (getD (take (length rows - share * b) (drop (share * b) rows)) m 0) (bitIn rows b m)
+pub row-words : (rows : List ℕ) (b n : ℕ) → HasRow (length rows) b → n ≤ longest → (m : ℕ) → m ≤ n → Is (getD (take (length rows - share * b) (drop (share * b) rows)) m 0) (bitIn rows b m)
 row-words rows b n r short m u j = rw (getD-take (length rows - share * b) (drop (share * b) rows) m 0 (omega arith), getD-drop (share * b) rows m 0)
 
 -- ---- a workspace that differs from d in share k alone, where word i is f i
 
 pub laid-is : (d out : List ℕ) (k : ℕ) (f : ℕ → ℕ) → share * k + share ≤ length d → length out ≡ length d
     → ((i : ℕ) → i < share → getD out (share * k + i) 0 ≡ f i)
-    → ((j : ℕ) → (j < share * k) ⊎ (share * k + share ≤ j) → getD out j 0 ≡ getD d j 0) → out ≡ laid d k (tab f share)
-unfolding laid
+    → ((j : ℕ) → (j < share * k) ⊎ (share * k + share ≤ j) → getD out j 0 ≡ getD d j 0) → out ≡ withRow d k (tab f share)
+unfolding withRow
 laid-is d out k f fits long own others =
     sym (take-append-drop (share * k + share) out)
     ∙ ap₂ _++_

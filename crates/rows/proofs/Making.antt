@@ -10,7 +10,7 @@ use lib.Dec.{eqb, leb, ltb, eqb·zero-suc}
 use lib.ListN.{length, getD, take, drop, set, length-set, length-take, length-drop}
 use lib.Seq.{getD-set-same, getD-set-other, getD-take, getD-drop, length-take-le}
 use borrow.Author.Tests.{le-leb, lt-leb, leb-true, lt-ltb, ltb-true, eq-eqb, eqb-true, eqb-false, ne-eqb}
-use Rattle.tests.proofs.Telling.{side}
+use Rattle.telling.proofs.Telling.{side}
 use Rattle.positions.specs.Member.{has, Is}
 use Rattle.positions.proofs.Tests.{leb-same}
 use Rattle.positions.proofs.Laws.{has-none}
@@ -19,7 +19,7 @@ use Rattle.table.specs.declared.nodes.SequenceOp.the-variants.{Letter, Either, 
 use Rattle.rows.specs.declared.sequences.Found.{Found}
 use Rattle.rows.specs.Shares.{share, topWord, longest, wordIn}
 use Rattle.rows.specs.Bits.{longer, Forward, sequenceBit, goesOn, startsOpen, topBit, Finds, readySequence}
-use Rattle.rows.specs.Rows.{tab, laid, sequenceWord, None, Ends, Stored, Made}
+use Rattle.rows.specs.Rows.{tab, withRow, sequenceWord, None, EndsOf, Stored, Made}
 use Rattle.rows.proofs.Laying.{word-is, laid-is, stored-none, stored-down, stored-as, rows-stored}
 
 -- ---- a set whose places n, n - 1, .. are decided one after the other: those from i to n are
@@ -80,7 +80,7 @@ pub either-ends : (rows rows′ : List ℕ) (n a b i x y v : ℕ) → rows ≡ r
     → Is v (sequenceBit rows′ n (Either a b) i)
 either-ends rows rows′ n a b i x y v e ex ey ev j = rw (← e, ← ex, ← ey) (ev j)
 
-none-ends : (rows : List ℕ) (n c a m x : ℕ) → x ≡ 0 → Ends rows n (Clocked c a) m x
+none-ends : (rows : List ℕ) (n c a m x : ℕ) → x ≡ 0 → EndsOf rows n (Clocked c a) m x
 none-ends rows n c a m x e = (omega arith, λ j. rw e (has-none j))
 
 -- ---- the row
@@ -95,7 +95,7 @@ module _ (d : List ℕ) (k n : ℕ) (op : SequenceOp) (within : share * k + shar
   none-made tops h = record { words = stored-none _ d _ (n + 1); decided = λ j. h j ∙ decided-none (on (take (share * k) d) n op) n j }
 
   -- a loop from start 0 up, of a kind that never goes on
-  pub stored-made : (i tops : ℕ) (ws : List ℕ) → i ≡ n + 1 → Stored (Ends (take (share * k) d) n op) d (share * k) 0 i ws
+  pub stored-made : (i tops : ℕ) (ws : List ℕ) → i ≡ n + 1 → Stored (EndsOf (take (share * k) d) n op) d (share * k) 0 i ws
       → ((j : ℕ) → on (take (share * k) d) n op j ≡ false) → Is tops (λ j. false) → Made d k n op 0 tops ws
   stored-made i tops ws e w off h =
       record {
@@ -151,7 +151,7 @@ module _ (d : List ℕ) (k n : ℕ) (op : SequenceOp) (within : share * k + shar
   module _ (tops : ℕ) (ws : List ℕ) (m : Made d k n op 0 tops ws) where
     pub all-made : (opened cut t : ℕ) (out : List ℕ) → t < 2 ^ 64 → Is opened (startsOpen (take (share * k) ws) n op) → Is cut (λ j. has opened j && leb j n)
         → Is t (λ j. has tops j || has cut j) → Stored None (set ws (share * k + topWord) t) (share * k) (n + 1) topWord out
-        → out ≡ laid d k (tab (sequenceWord (take (share * k) d) n op) share)
+        → out ≡ withRow d k (tab (sequenceWord (take (share * k) d) n op) share)
     all-made opened cut t out small opens cuts joined c =
         laid-is d out k (sequenceWord (take (share * k) d) n op) within (long-made _ _ ws m _ _ t out c) own others
       where

@@ -9,8 +9,8 @@ use native.Mathlib.Nat.{eq-or-lt-of-le}
 use native.Mathlib.Omega.{arith}
 use lib.Dec.{T, ltb}
 use lib.ListN.{getD}
-use Rattle.tests.specs.Tests.{Tells}
-use Rattle.tests.proofs.Telling.{passed, fails, is-test, is-and, is-or, is-as, is-lt, side}
+use Rattle.telling.specs.Tests.{Tells}
+use Rattle.telling.proofs.Telling.{passed, fails, is-test, is-and, is-or, is-as, is-lt, side}
 use Rattle.positions.specs.Member.{has, Is}
 use Rattle.rows.specs.Shares.{wordIn, bitIn}
 use Rattle.rows.specs.Bits.{reached, repeated, Chains, Forward}

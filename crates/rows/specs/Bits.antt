@@ -6,7 +6,7 @@ use mathlib.Core.List.{List}
 use Prim.Native.Nat.{ℕ, zero, suc, _+_, _-_, _<_, _≤_}
 use lib.Dec.{T, eqb, leb, ltb}
 use lib.ListN.{length, getD}
-use Rattle.tests.specs.Tests.{some, every}
+use Rattle.telling.specs.Tests.{some, every}
 use Rattle.meaning.specs.Words.{Tail, none, tops, bots, other}
 use Rattle.positions.specs.Member.{has, Is}
 use Rattle.table.specs.declared.nodes.BooleanOp.{BooleanOp}
@@ -18,7 +18,7 @@ use Rattle.table.specs.declared.nodes.PropertyOp.the-variants.{Strong, Weak, Ne
 use Rattle.rows.specs.declared.sequences.Found.{Found}
 use Rattle.rows.specs.declared.untils.Led.{Led}
 use Rattle.rows.specs.declared.cells.Suffixes.{Suffixes}
-use Rattle.rows.specs.Shares.{topWord, wordOf, bitIn, Row}
+use Rattle.rows.specs.Shares.{topWord, wordOf, bitIn, HasRow}
 
 -- ---- a boolean's word 0: the samples that satisfy it
 
@@ -173,26 +173,26 @@ pub record Following (rows : List ℕ) (n a : ℕ) (p r : Suffixes) : Type 0 whe
 abbrev pub readyBoolean : ℕ → BooleanOp → Type 0
 readyBoolean w (Constant v) = Unit {0}
 readyBoolean w (Signal s) = s < 64
-readyBoolean w (Not a) = Row w a
-readyBoolean w (And a b) = Row w a × Row w b
-readyBoolean w (Or a b) = Row w a × Row w b
+readyBoolean w (Not a) = HasRow w a
+readyBoolean w (And a b) = HasRow w a × HasRow w b
+readyBoolean w (Or a b) = HasRow w a × HasRow w b
 
 abbrev pub readySequence : ℕ → SequenceOp → Type 0
-readySequence w (Letter b) = Row w b
-readySequence w (Then a b) = Row w a × Row w b
-readySequence w (Fused a b) = Row w a × Row w b
-readySequence w (Either a b) = Row w a × Row w b
+readySequence w (Letter b) = HasRow w b
+readySequence w (Then a b) = HasRow w a × HasRow w b
+readySequence w (Fused a b) = HasRow w a × HasRow w b
+readySequence w (Either a b) = HasRow w a × HasRow w b
 readySequence w (Empty a) = Unit {0}
-readySequence w (Repeat a) = Row w a
+readySequence w (Repeat a) = HasRow w a
 readySequence w (Clocked c a) = Unit {0}
 
 abbrev pub readyProperty : ℕ → PropertyOp → Type 0
-readyProperty w (Strong a) = Row w a
-readyProperty w (Weak a) = Row w a
-readyProperty w (Negated p) = Row w p
-readyProperty w (AnyOf p q) = Row w p × Row w q
-readyProperty w (BothOf p q) = Row w p × Row w q
-readyProperty w (Implies a p) = Row w a × Row w p
-readyProperty w (Next p) = Row w p
-readyProperty w (Until p q) = Row w p × Row w q
+readyProperty w (Strong a) = HasRow w a
+readyProperty w (Weak a) = HasRow w a
+readyProperty w (Negated p) = HasRow w p
+readyProperty w (AnyOf p q) = HasRow w p × HasRow w q
+readyProperty w (BothOf p q) = HasRow w p × HasRow w q
+readyProperty w (Implies a p) = HasRow w a × HasRow w p
+readyProperty w (Next p) = HasRow w p
+readyProperty w (Until p q) = HasRow w p × HasRow w q
 readyProperty w (Ticked c p) = Unit {0}

@@ -46,17 +46,17 @@ nodeWord rows xs (Sequence op) i = sequenceWord rows (length xs) op i
 nodeWord rows xs (Property op) i = propertyWord rows (length xs) op i
 
 -- the row of a node, from the rows below it
-unfoldable pub rowOf : List ℕ → List ℕ → Node → List ℕ
-rowOf rows xs node = tab (nodeWord rows xs node) share
+unfoldable pub nodeRow : List ℕ → List ℕ → Node → List ℕ
+nodeRow rows xs node = tab (nodeWord rows xs node) share
 
 -- the rows of the nodes below k
 unfoldable pub rowsOf : List ℕ → List ℕ → ℕ → List ℕ
 rowsOf s xs zero = []
-rowsOf s xs (suc k) = rowsOf s xs k ++ rowOf (rowsOf s xs k) xs (nodeAt s k)
+rowsOf s xs (suc k) = rowsOf s xs k ++ nodeRow (rowsOf s xs k) xs (nodeAt s k)
 
 -- the workspace d with the row r laid in at node k
-unfoldable pub laid : List ℕ → ℕ → List ℕ → List ℕ
-laid d k r = take (share * k) d ++ r ++ drop (share * k + share) d
+unfoldable pub withRow : List ℕ → ℕ → List ℕ → List ℕ
+withRow d k r = take (share * k) d ++ r ++ drop (share * k + share) d
 
 -- out is d with the words `from` to `to` - 1 of the share at `at` made anew, so that P holds of each and its number; all others stay
 pub record Stored (P : ℕ → ℕ → Type 0) (d : List ℕ) (at from to : ℕ) (out : List ℕ) : Type 0 where
@@ -68,12 +68,12 @@ pub record Stored (P : ℕ → ℕ → Type 0) (d : List ℕ) (at from to : ℕ)
 abbrev pub None : ℕ → ℕ → Type 0
 None m x = x ≡ 0
 
-abbrev pub Ends : List ℕ → ℕ → SequenceOp → ℕ → ℕ → Type 0
-Ends rows n op m x = (x < 2 ^ 64) × Is x (sequenceBit rows n op m)
+abbrev pub EndsOf : List ℕ → ℕ → SequenceOp → ℕ → ℕ → Type 0
+EndsOf rows n op m x = (x < 2 ^ 64) × Is x (sequenceBit rows n op m)
 
 -- a sequence's words i to n are stored in share k, and tops has those of the starts i to n from which the match goes on
 pub record Made (d : List ℕ) (k n : ℕ) (op : SequenceOp) (i tops : ℕ) (out : List ℕ) : Type 0 where
-  pub words : Stored (Ends (take (share * k) d) n op) d (share * k) i (n + 1) out
+  pub words : Stored (EndsOf (take (share * k) d) n op) d (share * k) i (n + 1) out
   pub decided : Is tops (λ j. (leb i j && leb j n) && goesOn (take (share * k) d) op (sequenceBit (take (share * k) d) n op j) j)
 
 -- the workspace d with the rows of the nodes below k laid in

@@ -33,5 +33,5 @@ abbrev pub bitIn : List ℕ → ℕ → ℕ → ℕ → Bool
 bitIn rows a i k = has (wordIn rows a i) k
 
 -- row a lies within the first w words
-abbrev pub Row : ℕ → ℕ → Type 0
-Row w a = share * a + share ≤ w
+abbrev pub HasRow : ℕ → ℕ → Type 0
+HasRow w a = share * a + share ≤ w

@@ -7,7 +7,7 @@ ghost use Prim.Native.Nat.{_≤_, _<_};
 ghost use lib.Dec.{ltb};
 ghost use lib.ListN.{length, getD};
 ghost use Rattle.positions.specs.Member.{has, Is};
-ghost use Rattle.rows.specs.Shares.{longest, bitIn, Row};
+ghost use Rattle.rows.specs.Shares.{longest, bitIn, HasRow};
 ghost use Rattle.rows.specs.Bits.{booleanBit, readyBoolean};
 
 // The places of all n samples.
@@ -36,7 +36,7 @@ fn signal_set(samples: &[u64], s: usize) -> PositionSet
 
 // The samples that do not satisfy row a.
 fn not_set(rows: &[u64], a: usize, n: usize) -> PositionSet
-    requires { ⌜ Row (length (now rows)) a × (n ≤ longest) ⌝ }
+    requires { ⌜ HasRow (length (now rows)) a × (n ≤ longest) ⌝ }
     ensures { λ r. ⌜ Is (r .bits) (λ k. ltb k n && not (bitIn (now (rows .entry)) a 0 k)) ⌝ }
 {
     all_samples(n).without(word_at(rows, a, 0))

@@ -5,7 +5,7 @@ ghost use mathlib.Core.Bool.{true};
 ghost use Prim.Native.Nat.{_≤_, _<_};
 ghost use lib.ListN.{length};
 ghost use Rattle.positions.specs.Member.{Is};
-ghost use Rattle.rows.specs.Shares.{share, longest, wordIn, Row};
+ghost use Rattle.rows.specs.Shares.{share, longest, wordIn, HasRow};
 ghost use Rattle.rows.specs.Bits.{longer, lastLetter, starts, Forward};
 
 // The words that a node owns.
@@ -26,7 +26,7 @@ pub struct Suffixes {
 
 // Word i of row a.
 pub fn word_at(rows: &[u64], a: usize, i: usize) -> PositionSet
-    requires { ⌜ Row (length (now rows)) a × (i < share) ⌝ }
+    requires { ⌜ HasRow (length (now rows)) a × (i < share) ⌝ }
     ensures { λ r. ⌜ r .bits ≡ wordIn (now (rows .entry)) a i ⌝ }
 {
     let at = SHARE * a + i;
@@ -35,7 +35,7 @@ pub fn word_at(rows: &[u64], a: usize, i: usize) -> PositionSet
 
 // The ends of the matches of row a from i that are not empty.
 pub fn longer_ends(rows: &[u64], a: usize, i: usize) -> PositionSet
-    requires { ⌜ Row (length (now rows)) a × (i ≤ longest) ⌝ }
+    requires { ⌜ HasRow (length (now rows)) a × (i ≤ longest) ⌝ }
     ensures { λ r. ⌜ Is (r .bits) (longer (now (rows .entry)) a i) ⌝ }
 {
     word_at(rows, a, i).after(i)
@@ -43,7 +43,7 @@ pub fn longer_ends(rows: &[u64], a: usize, i: usize) -> PositionSet
 
 // Their last letters.
 pub fn last_letters(rows: &[u64], a: usize, i: usize) -> PositionSet
-    requires { ⌜ Row (length (now rows)) a × (i ≤ longest) ⌝ }
+    requires { ⌜ HasRow (length (now rows)) a × (i ≤ longest) ⌝ }
     ensures { λ r. ⌜ Is (r .bits) (lastLetter (now (rows .entry)) a i) ⌝ }
 {
     longer_ends(rows, a, i).down()
@@ -51,7 +51,7 @@ pub fn last_letters(rows: &[u64], a: usize, i: usize) -> PositionSet
 
 // The starts, up to n, of the matches of row a that are not empty.
 pub fn starts_of(rows: &[u64], a: usize, n: usize) -> PositionSet
-    requires { ⌜ Row (length (now rows)) a × (n ≤ longest) ⌝ }
+    requires { ⌜ HasRow (length (now rows)) a × (n ≤ longest) ⌝ }
     ensures { λ r. ⌜ Is (r .bits) (starts (now (rows .entry)) n a) ⌝ }
 {
     let mut out = PositionSet::empty();
@@ -65,7 +65,7 @@ pub fn starts_of(rows: &[u64], a: usize, n: usize) -> PositionSet
 
 // Whether no word of row a up to n has a place below its start.
 pub fn leads_forward(rows: &[u64], a: usize, n: usize) -> bool
-    requires { ⌜ Row (length (now rows)) a × (n ≤ longest) ⌝ }
+    requires { ⌜ HasRow (length (now rows)) a × (n ≤ longest) ⌝ }
     ensures { λ r. ⌜ (r ≡ true → Forward (now (rows .entry)) a n) ⌝ }
 {
     let mut back = PositionSet::empty();

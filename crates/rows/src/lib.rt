@@ -22,14 +22,14 @@ use words::put_words;
 ghost use mathlib.Core.Path.{_≡_};
 ghost use Prim.Native.Nat.{_*_, _≤_};
 ghost use lib.ListN.{length, take};
-ghost use Rattle.rows.specs.Shares.{share, longest, Row};
+ghost use Rattle.rows.specs.Shares.{share, longest, HasRow};
 ghost use Rattle.rows.specs.Bits.{readySequence};
-ghost use Rattle.rows.specs.Rows.{tab, threeWords, sequenceWord, rowOf, laid, filled, Ready, Fits};
+ghost use Rattle.rows.specs.Rows.{tab, threeWords, sequenceWord, nodeRow, withRow, filled, Ready, Fits};
 
 // A row of three words, the others 0.
 fn put_three(ws: &mut [u64], k: usize, words: Suffixes)
-    requires { ⌜ Row (length (now ws)) k ⌝ }
-    ensures { λ _. ⌜ now (ws .exit) ≡ laid (now (ws .entry)) k (tab (threeWords (words .neutral .bits) (words .weak .bits) (words .strong .bits)) share) ⌝ }
+    requires { ⌜ HasRow (length (now ws)) k ⌝ }
+    ensures { λ _. ⌜ now (ws .exit) ≡ withRow (now (ws .entry)) k (tab (threeWords (words .neutral .bits) (words .weak .bits) (words .strong .bits)) share) ⌝ }
 {
     let at = SHARE * k;
     ws[at] = words.neutral.bits;
@@ -40,8 +40,8 @@ fn put_three(ws: &mut [u64], k: usize, words: Suffixes)
 
 // A sequence's row: its words up to n, then word 64, and 0 between.
 fn put_sequence(ws: &mut [u64], k: usize, op: SequenceOp, n: usize)
-    requires { ⌜ Row (length (now ws)) k × readySequence (share * k) op × (n ≤ longest) ⌝ }
-    ensures { λ _. ⌜ now (ws .exit) ≡ laid (now (ws .entry)) k (tab (sequenceWord (take (share * k) (now (ws .entry))) n op) share) ⌝ }
+    requires { ⌜ HasRow (length (now ws)) k × readySequence (share * k) op × (n ≤ longest) ⌝ }
+    ensures { λ _. ⌜ now (ws .exit) ≡ withRow (now (ws .entry)) k (tab (sequenceWord (take (share * k) (now (ws .entry))) n op) share) ⌝ }
 {
     let at = SHARE * k;
     let tops = put_words(ws, k, op, n);
@@ -52,8 +52,8 @@ fn put_sequence(ws: &mut [u64], k: usize, op: SequenceOp, n: usize)
 
 // Row k, from the rows below it.
 fn put_row(ws: &mut [u64], samples: &[u64], k: usize, node: Node)
-    requires { ⌜ Row (length (now ws)) k × Ready (share * k) node × (length (now samples) ≤ longest) ⌝ }
-    ensures { λ _. ⌜ now (ws .exit) ≡ laid (now (ws .entry)) k (rowOf (take (share * k) (now (ws .entry))) (now (samples .entry)) node) ⌝ }
+    requires { ⌜ HasRow (length (now ws)) k × Ready (share * k) node × (length (now samples) ≤ longest) ⌝ }
+    ensures { λ _. ⌜ now (ws .exit) ≡ withRow (now (ws .entry)) k (nodeRow (take (share * k) (now (ws .entry))) (now (samples .entry)) node) ⌝ }
 {
     let at = SHARE * k;
     match node {

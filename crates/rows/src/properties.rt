@@ -15,12 +15,12 @@ ghost use Prim.Native.Nat.{suc, _≤_};
 ghost use lib.Dec.{leb};
 ghost use lib.ListN.{length};
 ghost use Rattle.positions.specs.Member.{has, Is};
-ghost use Rattle.rows.specs.Shares.{longest, wordIn, Row};
+ghost use Rattle.rows.specs.Shares.{longest, wordIn, HasRow};
 ghost use Rattle.rows.specs.Bits.{Satisfying, Following, readyProperty};
 
 // The words of the property of row p.
 fn three_at(rows: &[u64], p: usize) -> Suffixes
-    requires { ⌜ Row (length (now rows)) p ⌝ }
+    requires { ⌜ HasRow (length (now rows)) p ⌝ }
     ensures { λ r. ⌜ ((r .neutral .bits) ≡ wordIn (now (rows .entry)) p 0) × ((r .weak .bits) ≡ wordIn (now (rows .entry)) p 1) × ((r .strong .bits) ≡ wordIn (now (rows .entry)) p 2) ⌝ }
 {
     Suffixes {
@@ -32,7 +32,7 @@ fn three_at(rows: &[u64], p: usize) -> Suffixes
 
 // A match that is not empty: inside the record or, with a ⊤ tail, on into its letters.
 fn strong_of(rows: &[u64], n: usize, a: usize) -> Suffixes
-    requires { ⌜ Row (length (now rows)) a × (n ≤ longest) ⌝ }
+    requires { ⌜ HasRow (length (now rows)) a × (n ≤ longest) ⌝ }
     ensures { λ r. ⌜ Satisfying (now (rows .entry)) n (PropertyOp.Strong a) r ⌝ }
 {
     let inside = starts_of(rows, a, n);
@@ -45,7 +45,7 @@ fn strong_of(rows: &[u64], n: usize, a: usize) -> Suffixes
 
 // The longest prefix, followed by ⊤, decides; at the end of a record with no tail there is no prefix to ask.
 fn weak_of(rows: &[u64], n: usize, a: usize) -> Suffixes
-    requires { ⌜ Row (length (now rows)) a × (n ≤ longest) ⌝ }
+    requires { ⌜ HasRow (length (now rows)) a × (n ≤ longest) ⌝ }
     ensures { λ r. ⌜ Satisfying (now (rows .entry)) n (PropertyOp.Weak a) r ⌝ }
 {
     let inside = starts_of(rows, a, n);
@@ -59,7 +59,7 @@ fn weak_of(rows: &[u64], n: usize, a: usize) -> Suffixes
 
 // The bar of a word swaps the tails: not P with a ⊤ tail asks P with a ⊥ tail.
 fn not_of(rows: &[u64], n: usize, p: usize) -> Suffixes
-    requires { ⌜ Row (length (now rows)) p × (n ≤ longest) ⌝ }
+    requires { ⌜ HasRow (length (now rows)) p × (n ≤ longest) ⌝ }
     ensures { λ r. ⌜ Satisfying (now (rows .entry)) n (PropertyOp.Negated p) r ⌝ }
 {
     let asked = three_at(rows, p);
@@ -71,7 +71,7 @@ fn not_of(rows: &[u64], n: usize, p: usize) -> Suffixes
 }
 
 fn any_of(rows: &[u64], n: usize, p: usize, q: usize) -> Suffixes
-    requires { ⌜ Row (length (now rows)) p × Row (length (now rows)) q ⌝ }
+    requires { ⌜ HasRow (length (now rows)) p × HasRow (length (now rows)) q ⌝ }
     ensures { λ r. ⌜ Satisfying (now (rows .entry)) n (PropertyOp.AnyOf p q) r ⌝ }
 {
     let first = three_at(rows, p);
@@ -84,7 +84,7 @@ fn any_of(rows: &[u64], n: usize, p: usize, q: usize) -> Suffixes
 }
 
 fn both_of(rows: &[u64], n: usize, p: usize, q: usize) -> Suffixes
-    requires { ⌜ Row (length (now rows)) p × Row (length (now rows)) q ⌝ }
+    requires { ⌜ HasRow (length (now rows)) p × HasRow (length (now rows)) q ⌝ }
     ensures { λ r. ⌜ Satisfying (now (rows .entry)) n (PropertyOp.BothOf p q) r ⌝ }
 {
     let first = three_at(rows, p);
@@ -98,7 +98,7 @@ fn both_of(rows: &[u64], n: usize, p: usize, q: usize) -> Suffixes
 
 // The starts, up to n, from which each match of row a that is not empty has its last letter in the set, for each of the three.
 fn following(rows: &[u64], n: usize, a: usize, p: Suffixes) -> Suffixes
-    requires { ⌜ Row (length (now rows)) a × (n ≤ longest) ⌝ }
+    requires { ⌜ HasRow (length (now rows)) a × (n ≤ longest) ⌝ }
     ensures { λ r. ⌜ Following (now (rows .entry)) n a p r ⌝ }
 {
     let mut neutral = PositionSet::empty();
@@ -121,7 +121,7 @@ fn following(rows: &[u64], n: usize, a: usize, p: Suffixes) -> Suffixes
 
 // The left side matches on the bar of the word: with a ⊥ tail it may end among letters ⊤, and P is then asked in the tail.
 fn implies_of(rows: &[u64], n: usize, a: usize, p: usize) -> Suffixes
-    requires { ⌜ Row (length (now rows)) a × Row (length (now rows)) p × (n ≤ longest) ⌝ }
+    requires { ⌜ HasRow (length (now rows)) a × HasRow (length (now rows)) p × (n ≤ longest) ⌝ }
     ensures { λ r. ⌜ Satisfying (now (rows .entry)) n (PropertyOp.Implies a p) r ⌝ }
 {
     let asked = three_at(rows, p);
@@ -142,7 +142,7 @@ fn next_in_tail(s: PositionSet, n: usize) -> PositionSet
 }
 
 fn next_of(rows: &[u64], n: usize, p: usize) -> Suffixes
-    requires { ⌜ Row (length (now rows)) p × (n ≤ longest) ⌝ }
+    requires { ⌜ HasRow (length (now rows)) p × (n ≤ longest) ⌝ }
     ensures { λ r. ⌜ Satisfying (now (rows .entry)) n (PropertyOp.Next p) r ⌝ }
 {
     let asked = three_at(rows, p);
@@ -154,7 +154,7 @@ fn next_of(rows: &[u64], n: usize, p: usize) -> Suffixes
 }
 
 fn until_of(rows: &[u64], n: usize, p: usize, q: usize) -> Suffixes
-    requires { ⌜ Row (length (now rows)) p × Row (length (now rows)) q × (n ≤ longest) ⌝ }
+    requires { ⌜ HasRow (length (now rows)) p × HasRow (length (now rows)) q × (n ≤ longest) ⌝ }
     ensures { λ r. ⌜ Satisfying (now (rows .entry)) n (PropertyOp.Until p q) r ⌝ }
 {
     let first = three_at(rows, p);

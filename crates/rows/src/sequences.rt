@@ -11,7 +11,7 @@ ghost use mathlib.Core.Bool.{true};
 ghost use Prim.Native.Nat.{ℕ, _≤_, _<_};
 ghost use lib.ListN.{length, getD};
 ghost use Rattle.positions.specs.Member.{has, Is};
-ghost use Rattle.rows.specs.Shares.{share, longest, Row};
+ghost use Rattle.rows.specs.Shares.{share, longest, HasRow};
 ghost use Rattle.rows.specs.Bits.{reached, Chains, Forward, longer, sequenceBit, startsOpen, Finds, readySequence};
 
 // What is found from one start: the ends of the matches, and whether one goes on into the letters ⊤ after a part inside the record.
@@ -38,7 +38,7 @@ fn ends_from(words: &[u64], s: PositionSet, n: usize) -> PositionSet
 
 // The ends of the matches of row b that are not empty, from each start up to n: taken once for all the walks along them.
 pub fn longer_words(rows: &[u64], b: usize, n: usize, out: &mut [u64])
-    requires { ⌜ Row (length (now rows)) b × (n ≤ longest) × (n < length (now out)) ⌝ }
+    requires { ⌜ HasRow (length (now rows)) b × (n ≤ longest) × (n < length (now out)) ⌝ }
     ensures { λ _. ⌜ ((m : ℕ) → m ≤ n → Is (getD (now (out .exit)) m 0) (longer (now (rows .entry)) b m)) ⌝ }
 {
     let mut m: usize = 0;
@@ -50,7 +50,7 @@ pub fn longer_words(rows: &[u64], b: usize, n: usize, out: &mut [u64])
 
 // The ends of the second match, from each end of the first.
 pub fn then_from(rows: &[u64], n: usize, a: usize, b: usize, i: usize) -> Found
-    requires { ⌜ Row (length (now rows)) a × Row (length (now rows)) b × (n ≤ longest) × (i ≤ n) ⌝ }
+    requires { ⌜ HasRow (length (now rows)) a × HasRow (length (now rows)) b × (n ≤ longest) × (i ≤ n) ⌝ }
     ensures { λ r. ⌜ Finds (now (rows .entry)) n (SequenceOp.Then a b) i r ⌝ }
 {
     let first = word_at(rows, a, i);
@@ -63,7 +63,7 @@ pub fn then_from(rows: &[u64], n: usize, a: usize, b: usize, i: usize) -> Found
 
 // The ends of the second match, `second`, from each last letter of the first.
 pub fn fused_from(rows: &[u64], second: &[u64], n: usize, a: usize, b: usize, i: usize) -> Found
-    requires { ⌜ Row (length (now rows)) a × Row (length (now rows)) b × (n ≤ longest) × (i ≤ n) × (n < length (now second)) ⌝ }
+    requires { ⌜ HasRow (length (now rows)) a × HasRow (length (now rows)) b × (n ≤ longest) × (i ≤ n) × (n < length (now second)) ⌝ }
     requires { ⌜ ((m : ℕ) → m ≤ n → Is (getD (now second) m 0) (longer (now rows) b m)) ⌝ }
     ensures { λ r. ⌜ Finds (now (rows .entry)) n (SequenceOp.Fused a b) i r ⌝ }
 {
@@ -94,7 +94,7 @@ fn ends_along(words: &[u64], s: PositionSet, n: usize, chain: bool) -> PositionS
 // One match from i, or one that is not empty and then those from its end, which `own`, the node's words above i, has already; they chain
 // where `forward`, as no match of row a then leads back.
 pub fn repeat_from(rows: &[u64], own: &[u64], n: usize, a: usize, i: usize, forward: bool) -> Found
-    requires { ⌜ Row (length (now rows)) a × (n ≤ longest) × (i ≤ n) × (share ≤ length (now own)) ⌝ }
+    requires { ⌜ HasRow (length (now rows)) a × (n ≤ longest) × (i ≤ n) × (share ≤ length (now own)) ⌝ }
     requires { ⌜ ((m : ℕ) → i < m → m ≤ n → Is (getD (now own) m 0) (sequenceBit (now rows) n (SequenceOp.Repeat a) m)) ⌝ }
     requires { ⌜ (forward ≡ true → Forward (now rows) a n) ⌝ }
     ensures { λ r. ⌜ Finds (now (rows .entry)) n (SequenceOp.Repeat a) i r ⌝ }
@@ -109,7 +109,7 @@ pub fn repeat_from(rows: &[u64], own: &[u64], n: usize, a: usize, i: usize, forw
 
 // Of `##1`: the first match ends among the letters ⊤, and the second is empty or goes on there.
 fn then_open(rows: &[u64], n: usize, a: usize, b: usize) -> PositionSet
-    requires { ⌜ Row (length (now rows)) a × Row (length (now rows)) b × (n ≤ longest) ⌝ }
+    requires { ⌜ HasRow (length (now rows)) a × HasRow (length (now rows)) b × (n ≤ longest) ⌝ }
     ensures { λ r. ⌜ Is (r .bits) (startsOpen (now (rows .entry)) n (SequenceOp.Then a b)) ⌝ }
 {
     let ends_there = word_at(rows, b, n).has(n) | word_at(rows, b, TOP_WORD).has(n);

@@ -11,7 +11,7 @@ use positions::PositionSet;
 use table::nodes::SequenceOp;
 ghost use Prim.Native.Nat.{_+_, _*_, _≤_};
 ghost use lib.ListN.{length};
-ghost use Rattle.rows.specs.Shares.{share, longest, Row};
+ghost use Rattle.rows.specs.Shares.{share, longest, HasRow};
 ghost use Rattle.rows.specs.Bits.{readySequence};
 ghost use Rattle.rows.specs.Rows.{None, Stored, Made};
 
@@ -29,7 +29,7 @@ pub fn clear(ws: &mut [u64], at: usize, from: usize, to: usize)
 
 // A letter's match from i ends after i, where sample i satisfies b.
 fn put_letter(ws: &mut [u64], k: usize, b: usize, n: usize) -> PositionSet
-    requires { ⌜ Row (length (now ws)) k × Row (share * k) b × (n ≤ longest) ⌝ }
+    requires { ⌜ HasRow (length (now ws)) k × HasRow (share * k) b × (n ≤ longest) ⌝ }
     ensures { λ r. ⌜ Made (now (ws .entry)) k n (SequenceOp.Letter b) 0 (r .bits) (now (ws .exit)) ⌝ }
 {
     let at = SHARE * k;
@@ -43,7 +43,7 @@ fn put_letter(ws: &mut [u64], k: usize, b: usize, n: usize) -> PositionSet
 }
 
 fn put_either(ws: &mut [u64], k: usize, a: usize, b: usize, n: usize) -> PositionSet
-    requires { ⌜ Row (length (now ws)) k × Row (share * k) a × Row (share * k) b × (n ≤ longest) ⌝ }
+    requires { ⌜ HasRow (length (now ws)) k × HasRow (share * k) a × HasRow (share * k) b × (n ≤ longest) ⌝ }
     ensures { λ r. ⌜ Made (now (ws .entry)) k n (SequenceOp.Either a b) 0 (r .bits) (now (ws .exit)) ⌝ }
 {
     let at = SHARE * k;
@@ -59,7 +59,7 @@ fn put_either(ws: &mut [u64], k: usize, a: usize, b: usize, n: usize) -> Positio
 
 // The empty match of row a's node, and no other.
 fn put_empty(ws: &mut [u64], k: usize, a: usize, n: usize) -> PositionSet
-    requires { ⌜ Row (length (now ws)) k × (n ≤ longest) ⌝ }
+    requires { ⌜ HasRow (length (now ws)) k × (n ≤ longest) ⌝ }
     ensures { λ r. ⌜ Made (now (ws .entry)) k n (SequenceOp.Empty a) 0 (r .bits) (now (ws .exit)) ⌝ }
 {
     let at = SHARE * k;
@@ -72,7 +72,7 @@ fn put_empty(ws: &mut [u64], k: usize, a: usize, n: usize) -> PositionSet
 }
 
 fn put_then(ws: &mut [u64], k: usize, a: usize, b: usize, n: usize) -> PositionSet
-    requires { ⌜ Row (length (now ws)) k × Row (share * k) a × Row (share * k) b × (n ≤ longest) ⌝ }
+    requires { ⌜ HasRow (length (now ws)) k × HasRow (share * k) a × HasRow (share * k) b × (n ≤ longest) ⌝ }
     ensures { λ r. ⌜ Made (now (ws .entry)) k n (SequenceOp.Then a b) 0 (r .bits) (now (ws .exit)) ⌝ }
 {
     let at = SHARE * k;
@@ -88,7 +88,7 @@ fn put_then(ws: &mut [u64], k: usize, a: usize, b: usize, n: usize) -> PositionS
 }
 
 fn put_fused(ws: &mut [u64], k: usize, a: usize, b: usize, n: usize) -> PositionSet
-    requires { ⌜ Row (length (now ws)) k × Row (share * k) a × Row (share * k) b × (n ≤ longest) ⌝ }
+    requires { ⌜ HasRow (length (now ws)) k × HasRow (share * k) a × HasRow (share * k) b × (n ≤ longest) ⌝ }
     ensures { λ r. ⌜ Made (now (ws .entry)) k n (SequenceOp.Fused a b) 0 (r .bits) (now (ws .exit)) ⌝ }
 {
     let at = SHARE * k;
@@ -107,7 +107,7 @@ fn put_fused(ws: &mut [u64], k: usize, a: usize, b: usize, n: usize) -> Position
 
 // From the last start down, so that a repetition finds its own words above.
 fn put_repeat(ws: &mut [u64], k: usize, a: usize, n: usize) -> PositionSet
-    requires { ⌜ Row (length (now ws)) k × Row (share * k) a × (n ≤ longest) ⌝ }
+    requires { ⌜ HasRow (length (now ws)) k × HasRow (share * k) a × (n ≤ longest) ⌝ }
     ensures { λ r. ⌜ Made (now (ws .entry)) k n (SequenceOp.Repeat a) 0 (r .bits) (now (ws .exit)) ⌝ }
 {
     let at = SHARE * k;
@@ -126,7 +126,7 @@ fn put_repeat(ws: &mut [u64], k: usize, a: usize, n: usize) -> PositionSet
 
 // A rewritten table has no clock node, so there is nothing to find of one.
 fn put_none(ws: &mut [u64], k: usize, c: usize, a: usize, n: usize) -> PositionSet
-    requires { ⌜ Row (length (now ws)) k × (n ≤ longest) ⌝ }
+    requires { ⌜ HasRow (length (now ws)) k × (n ≤ longest) ⌝ }
     ensures { λ r. ⌜ Made (now (ws .entry)) k n (SequenceOp.Clocked c a) 0 (r .bits) (now (ws .exit)) ⌝ }
 {
     clear(ws, SHARE * k, 0, n + 1);
@@ -134,7 +134,7 @@ fn put_none(ws: &mut [u64], k: usize, c: usize, a: usize, n: usize) -> PositionS
 }
 
 pub fn put_words(ws: &mut [u64], k: usize, op: SequenceOp, n: usize) -> PositionSet
-    requires { ⌜ Row (length (now ws)) k × readySequence (share * k) op × (n ≤ longest) ⌝ }
+    requires { ⌜ HasRow (length (now ws)) k × readySequence (share * k) op × (n ≤ longest) ⌝ }
     ensures { λ r. ⌜ Made (now (ws .entry)) k n op 0 (r .bits) (now (ws .exit)) ⌝ }
 {
     match op {

@@ -9,8 +9,8 @@ use mathlib.Core.List.{List}
 use Prim.Native.Nat.{ℕ, suc, _+_, _*_, _<_, _≤_}
 use lib.Dec.{T, eqb, leb}
 use lib.ListN.{length, take, drop}
-use Rattle.tests.specs.Tests.{Tells}
-use Rattle.tests.proofs.Telling.{is-map, is-or, is-and, is-not, is-eq, is-lt, is-le, passed}
+use Rattle.telling.specs.Tests.{Tells}
+use Rattle.telling.proofs.Telling.{is-map, is-or, is-and, is-not, is-eq, is-lt, is-le, passed}
 use Rattle.refusal.specs.declared.Verdict.{Verdict}
 use Rattle.refusal.specs.Heading.{count, version, mark, headingRefusals}
 use Rattle.refusal.specs.First.{LowestSuch, when, atLowest, Answers, NotGiven}
@@ -26,7 +26,7 @@ use Rattle.table.specs.Computed.{nodeFits, unfit, astray, nodeCases, lat
 use Rattle.table.proofs.Forming.{fits-tells}
 use Rattle.table.proofs.Shapes.{sortOf, sort-is}
 use Rattle.table.proofs.Standing.{sequence-in}
-use Rattle.table.proofs.Topping.{asked, asks, hollow-tells}
+use Rattle.table.proofs.Topping.{asked, asks-of, hollow-tells}
 use Rattle.table.proofs.Placing.{fine-row}
 use Rattle.table.proofs.Built.{Built}
 use Rattle.table.proofs.Clocking.{clock-exists}
@@ -69,7 +69,7 @@ module _ (s : List ℕ) where
     hollows-tell : (k : ℕ) → k < count s → Tells (hollow s k) (Hollow s k)
     hollows-tell k l = record {
       to = λ t.
-          let (x, a) = asks s (count s) (ok .fit) k l t in
+          let (x, a) = asks-of s (count s) (ok .fit) k l t in
           let (e, b, z) = asked s (count s) (ok .fit) k l a refl in
           let (r, d) = sequence-in s (count s) (ok .fit) (count s) x (omega arith) (omega arith) z in
           let (ρ, c, (κ, m)) = clock-exists s ok k l (heavy k l a) in

@@ -5,8 +5,8 @@ use mathlib.Core.Bool.{Bool, true, false, cond, _&&_}
 use mathlib.Core.List.{List}
 use Prim.Native.Nat.{ℕ}
 use lib.Dec.{eqb, ltb}
-use Rattle.tests.specs.Tests.{Tells}
-use Rattle.tests.proofs.Telling.{is-map, is-and, is-not, is-eq, is-lt}
+use Rattle.telling.specs.Tests.{Tells}
+use Rattle.telling.proofs.Telling.{is-map, is-and, is-not, is-eq, is-lt}
 use Rattle.table.specs.declared.nodes.Node.{Node}
 use Rattle.table.specs.Operators.{none, bytesOf}
 use Rattle.table.specs.Nodes.{rawAt, rowAt, sortAt, nodeAt, Operand, WellFormed}

@@ -10,7 +10,7 @@ use Prim.Native.Nat.{ℕ, _+_, _<_, _≤_}
 use lib.Dec.{ltb}
 use lib.ListN.{length, take, getD, set, replicate, List·getD-eq-default}
 use lib.Seq.{take-suc-set, getD-take, getD-set-other}
-use Rattle.tests.proofs.Telling.{side}
+use Rattle.telling.proofs.Telling.{side}
 use Rattle.refusal.specs.Computed.{first}
 use Rattle.refusal.proofs.Firsts.{on, found}
 use Rattle.table.specs.declared.nodes.Raw.{Raw}

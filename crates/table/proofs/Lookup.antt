@@ -5,7 +5,7 @@ use mathlib.Core.Bool.{Bool, true, false, cond, _&&_}
 use mathlib.Core.List.{List, [], _∷_, map}
 use Prim.Native.Nat.{ℕ}
 use lib.Dec.{T, eqb}
-use Rattle.tests.proofs.Telling.{is-and, is-test}
+use Rattle.telling.proofs.Telling.{is-and, is-test}
 use Rattle.table.specs.declared.operators.Row.{Row}
 use Rattle.table.specs.Operators.{none, Entry, operators, unknown, lookup, rowOf}
 

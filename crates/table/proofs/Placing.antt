@@ -8,7 +8,7 @@ use mathlib.Core.Bool.{Bool, true, false, cond, _&&_, _||_}
 use mathlib.Core.List.{List}
 use Prim.Native.Nat.{ℕ, zero, suc, _+_, _<_, _≤_}
 use lib.Dec.{T, eqb, leb}
-use Rattle.tests.proofs.Telling.{is-and, is-or, is-le, side}
+use Rattle.telling.proofs.Telling.{is-and, is-or, is-le, side}
 use Rattle.table.specs.declared.operators.Row.{Row}
 use Rattle.table.specs.Operators.{none, sequence, property, operators, rowOf}
 use Rattle.table.specs.Nodes.{rawAt, rowAt, sortAt, hitsOf, placesOf, usesOf, WellFormed}

@@ -11,8 +11,8 @@ use Prim.Native.Nat.{ℕ, zero, suc, _<_}
 use lib.Dec.{T}
 use lib.ListN.{length, length-append, List·getD-append}
 use lib.Seq.{getD-at}
-use Rattle.tests.specs.Tests.{Tells, some, every}
-use Rattle.tests.proofs.Telling.{is-not, passed}
+use Rattle.telling.specs.Tests.{Tells, some, every}
+use Rattle.telling.proofs.Telling.{is-not, passed}
 use Rattle.meaning.specs.Syntax.{Seq, Prop, Clock, free, on}
 use Rattle.meaning.specs.Words.{top}
 use Rattle.meaning.specs.Meaning.{Topped, Accepted}
@@ -127,9 +127,9 @@ module _ (s : List ℕ) (n : ℕ) (fit : (k : ℕ) → k < n → WellFormed s k)
         subst (λ (b : Bool). Tells b (¬ Topped signal κ r)) (sym e) (is-not (topped-tells d (omega arith) κ))
 
     -- a hollow node asks for a sequence
-    pub asks : T (hollow s k) → (x : ℕ) × Asks (nodeAt s k) x
+    pub asks-of : T (hollow s k) → (x : ℕ) × Asks (nodeAt s k) x
     unfolding hollow hollowNode hollowProperty
-    asks = go (nodeAt s k)
+    asks-of = go (nodeAt s k)
       where
         go : (v : Node) → T (hollowNode v (ofX s k)) → (x : ℕ) × Asks v x
         go (Boolean o) t = absurd t

@@ -41,32 +41,32 @@ abbrev pub plain : ℕ → ℕ → ℕ → (ℕ → ℕ → Node) → Entry
 plain c own limit f = record { code = c; row = record { own = own; x = none; limit = limit; y = none; block = 1 }; make = f }
 
 -- any other line: code, own sort, sorts of x and y, block length under a clock, node
-abbrev pub line : ℕ → ℕ → ℕ → ℕ → ℕ → (ℕ → ℕ → Node) → Entry
-line c own x y block f = record { code = c; row = record { own = own; x = x; limit = 0; y = y; block = block }; make = f }
+abbrev pub entry : ℕ → ℕ → ℕ → ℕ → ℕ → (ℕ → ℕ → Node) → Entry
+entry c own x y block f = record { code = c; row = record { own = own; x = x; limit = 0; y = y; block = block }; make = f }
 
 unfoldable pub operators : List Entry
 operators =
     plain 0 boolean 2 (λ x y. Boolean (Constant x))
     ∷ plain 1 boolean 64 (λ x y. Boolean (Signal x))
-    ∷ line 2 boolean boolean none 1 (λ x y. Boolean (Not x))
-    ∷ line 3 boolean boolean boolean 1 (λ x y. Boolean (And x y))
-    ∷ line 4 boolean boolean boolean 1 (λ x y. Boolean (Or x y))
-    ∷ line 16 sequence boolean none 9 (λ x y. Sequence (Letter x))
-    ∷ line 17 sequence sequence sequence 1 (λ x y. Sequence (Then x y))
-    ∷ line 18 sequence sequence sequence 1 (λ x y. Sequence (Fused x y))
-    ∷ line 19 sequence sequence sequence 1 (λ x y. Sequence (Either x y))
-    ∷ line 20 sequence sequence none 1 (λ x y. Sequence (Empty x))
-    ∷ line 21 sequence sequence none 1 (λ x y. Sequence (Repeat x))
-    ∷ line 22 sequence boolean sequence 0 (λ x y. Sequence (Clocked x y))
-    ∷ line 32 property sequence none 1 (λ x y. Property (Strong x))
-    ∷ line 33 property sequence none 1 (λ x y. Property (Weak x))
-    ∷ line 34 property property none 1 (λ x y. Property (Negated x))
-    ∷ line 35 property property property 1 (λ x y. Property (AnyOf x y))
-    ∷ line 36 property property property 1 (λ x y. Property (BothOf x y))
-    ∷ line 37 property sequence property 1 (λ x y. Property (Implies x y))
-    ∷ line 38 property property none 14 (λ x y. Property (Next x))
-    ∷ line 39 property property property 9 (λ x y. Property (Until x y))
-    ∷ line 40 property boolean property 0 (λ x y. Property (Ticked x y))
+    ∷ entry 2 boolean boolean none 1 (λ x y. Boolean (Not x))
+    ∷ entry 3 boolean boolean boolean 1 (λ x y. Boolean (And x y))
+    ∷ entry 4 boolean boolean boolean 1 (λ x y. Boolean (Or x y))
+    ∷ entry 16 sequence boolean none 9 (λ x y. Sequence (Letter x))
+    ∷ entry 17 sequence sequence sequence 1 (λ x y. Sequence (Then x y))
+    ∷ entry 18 sequence sequence sequence 1 (λ x y. Sequence (Fused x y))
+    ∷ entry 19 sequence sequence sequence 1 (λ x y. Sequence (Either x y))
+    ∷ entry 20 sequence sequence none 1 (λ x y. Sequence (Empty x))
+    ∷ entry 21 sequence sequence none 1 (λ x y. Sequence (Repeat x))
+    ∷ entry 22 sequence boolean sequence 0 (λ x y. Sequence (Clocked x y))
+    ∷ entry 32 property sequence none 1 (λ x y. Property (Strong x))
+    ∷ entry 33 property sequence none 1 (λ x y. Property (Weak x))
+    ∷ entry 34 property property none 1 (λ x y. Property (Negated x))
+    ∷ entry 35 property property property 1 (λ x y. Property (AnyOf x y))
+    ∷ entry 36 property property property 1 (λ x y. Property (BothOf x y))
+    ∷ entry 37 property sequence property 1 (λ x y. Property (Implies x y))
+    ∷ entry 38 property property none 14 (λ x y. Property (Next x))
+    ∷ entry 39 property property property 9 (λ x y. Property (Until x y))
+    ∷ entry 40 property boolean property 0 (λ x y. Property (Ticked x y))
     ∷ []
 
 abbrev pub unknown : Row

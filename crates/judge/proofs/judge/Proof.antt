@@ -3,7 +3,7 @@ use native.Mathlib.Omega.{arith}
 use mathlib.Core.Path.{refl}
 use Prim.Native.Nat.{_≤_}
 use borrow.Author.Needs.{needs}
-use Rattle.judge.proofs.Judging.{few, some, used-bytes, fits, root-row, asks-rows, judge-refused, judge-accepted}
+use Rattle.judge.proofs.Judging.{few, some, used-bytes, fits, root-row, implies-rows, judge-refused, judge-accepted}
 use Rattle.judge.proofs.judge.Statement.{statement}
 use Rattle.judge.proofs.judge.Tie as tie
 
@@ -31,6 +31,6 @@ judge-spec =
     (λ c. let e = c .before .before .before .before .before .before .before .before in used-bytes _ _ _ _ _ _ _ (e .before .before .before .before .settle .ensures) (e .if1 .left))
     (λ c κs.
     let e = c .before .before .before .before .before .before .before .before .before in
-    asks-rows _ _ _ _ _ _ _ (e .before .before .before .before .settle .ensures) (e .if1 .left) _ _ refl refl _ (c .before .before .before .before .before .before .fill .ensures))
+    implies-rows _ _ _ _ _ _ _ (e .before .before .before .before .settle .ensures) (e .if1 .left) _ _ refl refl _ (c .before .before .before .before .before .before .fill .ensures))
     (λ c. search needs)
     (λ c. search judge-accepted))

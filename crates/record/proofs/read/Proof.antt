@@ -16,7 +16,7 @@ use Rattle.refusal.proofs.Deciding.{skip, stop, through}
 use Rattle.refusal.proofs.Headings.{heading-stops, heading-passes, heading-long}
 use Rattle.record.specs.declared.Reading.{Reading}
 use Rattle.record.specs.Record.{samples, Reads}
-use Rattle.record.specs.Computed.{refusing}
+use Rattle.record.specs.Computed.{refusedReading}
 use Rattle.record.proofs.Deciding.{laterCases, cases, answered, refuses}
 use Rattle.record.proofs.read.Statement.{statement}
 use Rattle.record.proofs.read.Tie as tie
@@ -26,7 +26,7 @@ module _ (s d : List ℕ) (v : Verdict) (ev : Answers (headingRefusals 0x57 s) v
   abbrev Left : ℕ → Type 0
   Left i = firstCase (cases s (length d)) ≡ firstCase (drop i (laterCases s (length d)))
 
-  opening : ¬ (v .number ≡ 0) → (r : Reading) → r ≡ refusing (v .number) (v .node) → Reads s d r d
+  opening : ¬ (v .number ≡ 0) → (r : Reading) → r ≡ refusedReading (v .number) (v .node) → Reads s d r d
   opening h r er = rw er (refuses s d _ (heading-stops 0x57 s v ev h (laterCases s (length d))) h refl)
 
   module _ (h : v .number ≡ 0) where
@@ -37,22 +37,22 @@ module _ (s d : List ℕ) (v : Verdict) (ev : Answers (headingRefusals 0x57 s) v
     left0 = heading-passes 0x57 s v ev h (laterCases s (length d))
 
     module _ (n : ℕ) (en : n ≡ count s) where
-      many : 63 < n → (r : Reading) → r ≡ refusing 10 0 → Reads s d r d
-      many g r er = rw er (refuses s d (refusing 10 0) (sym (left0 ∙ stop _ _ _ (lt-ltb _ _ (rw en at g)))) (λ z. omega arith) refl)
+      many : 63 < n → (r : Reading) → r ≡ refusedReading 10 0 → Reads s d r d
+      many g r er = rw er (refuses s d (refusedReading 10 0) (sym (left0 ∙ stop _ _ _ (lt-ltb _ _ (rw en at g)))) (λ z. omega arith) refl)
 
       module _ (few : n ≤ 63) where
         left1 : Left 1
         left1 = left0 ∙ skip _ _ _ (le-ltb _ _ (rw en at few))
 
-        disagrees : ¬ (length s ≡ 6 + 8 * n) → (r : Reading) → r ≡ refusing 5 0 → Reads s d r d
-        disagrees g r er = rw er (refuses s d (refusing 5 0) (sym (left1 ∙ stop _ _ _ (ap not (ne-eqb _ _ (rw en at g))))) (λ z. omega arith) refl)
+        disagrees : ¬ (length s ≡ 6 + 8 * n) → (r : Reading) → r ≡ refusedReading 5 0 → Reads s d r d
+        disagrees g r er = rw er (refuses s d (refusedReading 5 0) (sym (left1 ∙ stop _ _ _ (ap not (ne-eqb _ _ (rw en at g))))) (λ z. omega arith) refl)
 
         module _ (agrees : length s ≡ 6 + 8 * n) where
           left2 : Left 2
           left2 = left1 ∙ skip _ _ _ (ap not (eq-eqb _ _ (rw en at agrees)))
 
-          small : length d < n → (r : Reading) → r ≡ refusing 15 0 → Reads s d r d
-          small g r er = rw er (refuses s d (refusing 15 0) (sym (left2 ∙ stop _ _ _ (lt-ltb _ _ (rw en at g)))) (λ z. omega arith) refl)
+          small : length d < n → (r : Reading) → r ≡ refusedReading 15 0 → Reads s d r d
+          small g r er = rw er (refuses s d (refusedReading 15 0) (sym (left2 ∙ stop _ _ _ (lt-ltb _ _ (rw en at g)))) (λ z. omega arith) refl)
 
           done : n ≤ length d → (d′ : List ℕ) → d′ ≡ samples s n ++ drop n d → Reads s d (record { verdict = accepted; count = n }) d′
           done g d′ e = record {

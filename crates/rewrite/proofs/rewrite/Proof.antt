@@ -18,15 +18,15 @@ use Rattle.rewrite.specs.Clocks.{Clocks}
 use Rattle.rewrite.specs.Numbers.{newCount}
 use Rattle.rewrite.specs.Tables.{heading, encoded, newNodes, newTable}
 use Rattle.rewrite.specs.Rewrites.{Rewrites}
-use Rattle.rewrite.specs.Computed.{clockBy, Ready, Timed, put, refusing}
+use Rattle.rewrite.specs.Computed.{clockBy, Passed, Timed, put, refusedRewriting}
 use Rattle.rewrite.proofs.Cells.{length-table}
 use Rattle.rewrite.proofs.Deciding.{checks-accepted, size, size-is, table-stops, table-passes, answered, declines}
 use Rattle.rewrite.proofs.rewrite.Statement.{statement}
 use Rattle.rewrite.proofs.rewrite.Tie as tie
 
 module _ (s : List ℕ) (v : Verdict) (ev : Checks s v) where
-  opening : ¬ (v .number ≡ 0) → (d : List ℕ) (r : Rewriting) → r ≡ refusing (v .number) (v .node) → Rewrites s d r d
-  opening h d r er = rw er (declines s d (refusing (v .number) (v .node)) (table-stops s (length d) v ev h) h refl)
+  opening : ¬ (v .number ≡ 0) → (d : List ℕ) (r : Rewriting) → r ≡ refusedRewriting (v .number) (v .node) → Rewrites s d r d
+  opening h d r er = rw er (declines s d (refusedRewriting (v .number) (v .node)) (table-stops s (length d) v ev h) h refl)
 
   module _ (h : v .number ≡ 0) where
     built : Built s
@@ -35,7 +35,7 @@ module _ (s : List ℕ) (v : Verdict) (ev : Checks s v) where
     has-count : 5 < length s
     has-count = let l = built .long in omega arith
 
-    ready : Ready s
+    ready : Passed s
     ready = let l = built .long in record { checks = checks-accepted s v ev h; few = built .few; long = omega arith }
 
     module _ (clocks : List ℕ) (right : Clocks s (clockBy clocks)) where
@@ -46,14 +46,14 @@ module _ (s : List ℕ) (v : Verdict) (ev : Checks s v) where
         counted : size s ≡ m
         counted = size-is s (ready .checks) (clockBy clocks) right ∙ sym em
 
-        many : 120 < m → (r : Rewriting) → r ≡ refusing 13 0 → Rewrites s d r d
-        many g r er = rw er (declines s d (refusing 13 0) (sym (table-passes s (length d) v ev h ∙ stop _ _ _ (rw counted (lt-ltb 120 m g)))) (λ z. omega arith) refl)
+        many : 120 < m → (r : Rewriting) → r ≡ refusedRewriting 13 0 → Rewrites s d r d
+        many g r er = rw er (declines s d (refusedRewriting 13 0) (sym (table-passes s (length d) v ev h ∙ stop _ _ _ (rw counted (lt-ltb 120 m g)))) (λ z. omega arith) refl)
 
         module _ (few : m ≤ 120) where
-          small : length d < 4 * m + 6 → (r : Rewriting) → r ≡ refusing 15 0 → Rewrites s d r d
+          small : length d < 4 * m + 6 → (r : Rewriting) → r ≡ refusedRewriting 15 0 → Rewrites s d r d
           small g r er =
               rw er
-              (declines s d (refusing 15 0) (sym (table-passes s (length d) v ev h ∙ skip _ _ _ (rw counted (le-ltb 120 m few)) ∙ stop _ _ _ (rw counted (lt-ltb (length d) (6 + 4 * m) (omega arith)))))
+              (declines s d (refusedRewriting 15 0) (sym (table-passes s (length d) v ev h ∙ skip _ _ _ (rw counted (le-ltb 120 m few)) ∙ stop _ _ _ (rw counted (lt-ltb (length d) (6 + 4 * m) (omega arith)))))
               (λ z. omega arith) refl)
 
           done : 4 * m + 6 ≤ length d → (d′ : List ℕ) → d′ ≡ put d 0 (heading m ++ encoded (newNodes s (clockBy clocks))) → Rewrites s d (record { verdict = accepted; count = m }) d′

@@ -3,7 +3,7 @@ use mathlib.Core.Path.{sym}
 use Prim.Native.Nat.{_*_}
 use lib.Seq.{length-take-le}
 use Rattle.rows.specs.Shares.{share}
-use Rattle.rows.specs.Rows.{rowOf}
+use Rattle.rows.specs.Rows.{nodeRow}
 use Rattle.rows.proofs.Filling.{boolean-laid, property-laid}
 use borrow.Author.Needs.{needs}
 use Rattle.rows.proofs.put_row.Statement.{statement}
@@ -66,7 +66,7 @@ same-length-2 : tie.Need-same-length-2
 same-length-2 c = search needs
 
 returns-2 : tie.Need-returns-2
-unfolding rowOf
+unfolding nodeRow
 returns-2 c = rw (c .before .before .before .before .before .node2 .given .1) (c .before .before .put-sequence .ensures)
 
 same-length-3 : tie.Need-same-length-3

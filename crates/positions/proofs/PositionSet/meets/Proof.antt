@@ -1,7 +1,7 @@
 -- `positions::PositionSet::meets` meets its contract: the places of both sets are some. Assumes nothing.
 use mathlib.Core.Path.{ap, _∙_}
 use mathlib.Core.Bool.{not, Bool·not-not}
-use Rattle.tests.proofs.Telling.{some-same}
+use Rattle.telling.proofs.Telling.{some-same}
 use borrow.Author.Needs.{needs}
 use Rattle.positions.proofs.PositionSet.meets.Statement.{statement}
 use Rattle.positions.proofs.PositionSet.meets.Tie as tie

@@ -1,7 +1,7 @@
 -- `positions::PositionSet::within` meets its contract: no place is left of the set. Assumes nothing.
 use mathlib.Core.Path.{ap, _∙_}
 use mathlib.Core.Bool.{not}
-use Rattle.tests.proofs.Telling.{some-same}
+use Rattle.telling.proofs.Telling.{some-same}
 use borrow.Author.Needs.{needs}
 use Rattle.positions.proofs.PositionSet.within.Statement.{statement}
 use Rattle.positions.proofs.PositionSet.within.Tie as tie

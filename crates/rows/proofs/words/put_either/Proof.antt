@@ -7,14 +7,14 @@ use lib.Seq.{length-take-le}
 use borrow.Author.Needs.{needs}
 use Rattle.table.specs.declared.nodes.SequenceOp.the-variants.{Either}
 use Rattle.rows.specs.Shares.{share}
-use Rattle.rows.specs.Rows.{Ends, Stored}
+use Rattle.rows.specs.Rows.{EndsOf, Stored}
 use Rattle.rows.proofs.Laying.{row-taken, stored-none, stored-up, rows-stored}
 use Rattle.rows.proofs.Making.{either-ends, stored-made}
 use Rattle.rows.proofs.words.put_either.Statement.{statement}
 use Rattle.rows.proofs.words.put_either.Tie as tie
 
 abbrev Inv-loop : tie.InvT-loop
-Inv-loop ws₀ k a b n at i₀ ws i = (i ≤ n + 1) × Stored (Ends (take (share * k) ws₀) n (Either a b)) ws₀ (share * k) 0 i ws
+Inv-loop ws₀ k a b n at i₀ ws i = (i ≤ n + 1) × Stored (EndsOf (take (share * k) ws₀) n (Either a b)) ws₀ (share * k) 0 i ws
 
 abbrev μ-loop : tie.MeasureT-loop
 μ-loop ws₀ k a b n at i₀ ws i = n + 1 - i

@@ -6,14 +6,14 @@ use lib.ListN.{take}
 use borrow.Author.Needs.{needs}
 use Rattle.table.specs.declared.nodes.SequenceOp.the-variants.{Empty}
 use Rattle.rows.specs.Shares.{share}
-use Rattle.rows.specs.Rows.{Ends, Stored}
+use Rattle.rows.specs.Rows.{EndsOf, Stored}
 use Rattle.rows.proofs.Laying.{stored-none, stored-up}
 use Rattle.rows.proofs.Making.{stored-made}
 use Rattle.rows.proofs.words.put_empty.Statement.{statement}
 use Rattle.rows.proofs.words.put_empty.Tie as tie
 
 abbrev Inv-loop : tie.InvT-loop
-Inv-loop ws₀ k a n at i₀ ws i = (i ≤ n + 1) × Stored (Ends (take (share * k) ws₀) n (Empty a)) ws₀ (share * k) 0 i ws
+Inv-loop ws₀ k a n at i₀ ws i = (i ≤ n + 1) × Stored (EndsOf (take (share * k) ws₀) n (Empty a)) ws₀ (share * k) 0 i ws
 
 abbrev μ-loop : tie.MeasureT-loop
 μ-loop ws₀ k a n at i₀ ws i = n + 1 - i
