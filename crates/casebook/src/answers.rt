@@ -1,5 +1,4 @@
 // The lines that are printed.
-use crate::nodes::put_table;
 use crate::output::put_bytes;
 use crate::print::put;
 use crate::print::put_hex;
@@ -8,6 +7,7 @@ use crate::print::put_yes;
 use crate::shares::put_shares;
 use crate::short::put_digest;
 use crate::short::put_digits;
+use crate::tables::put_table;
 use judge::Judgement;
 use judge::MatchEnds;
 use refusal::Verdict;

@@ -25,11 +25,11 @@ mod case;
 mod judging;
 mod lines;
 mod lists;
-mod nodes;
 mod output;
 mod print;
 mod shares;
 mod short;
+mod tables;
 mod text;
 
 use lines::Held;

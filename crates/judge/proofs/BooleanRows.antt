@@ -10,9 +10,9 @@ use borrow.Author.Tests.{lt-ltb, le-ltb, ne-eqb}
 use Rattle.meaning.specs.Syntax.{Bexp, const, atom, nott, andd, orr}
 use Rattle.meaning.specs.Meaning.{value}
 use Rattle.meaning.specs.Signal.{signal}
-use Rattle.table.specs.declared.nodes.Node.the-variants.{Boolean}
-use Rattle.table.specs.declared.nodes.BooleanOp.{BooleanOp}
-use Rattle.table.specs.declared.nodes.BooleanOp.the-variants.{Constant, Signal, Not, And, Or}
+use Rattle.nodes.specs.declared.Node.the-variants.{Boolean}
+use Rattle.nodes.specs.declared.BooleanOp.{BooleanOp}
+use Rattle.nodes.specs.declared.BooleanOp.the-variants.{Constant, Signal, Not, And, Or}
 use Rattle.rows.specs.Shares.{longest, wordIn}
 use Rattle.rows.specs.Bits.{booleanBit}
 use Rattle.judge.specs.Rows.{BooleanRow}

@@ -9,22 +9,23 @@ use mathlib.Core.List.{List, [], _∷_, _++_}
 use Prim.Native.Nat.{ℕ, zero, _*_, _-_, _≤_}
 use lib.Dec.{T}
 use lib.ListN.{length}
-use Rattle.telling.specs.Tests.{Tells}
+use Rattle.telling.specs.Tells.{Tells}
 use Rattle.telling.proofs.Telling.{is-map, is-like, same-test}
 use Rattle.positions.proofs.Laws.{ext}
 use Rattle.refusal.specs.First.{Refusal, NotGiven, FirstGiven}
 use Rattle.refusal.specs.Heading.{count}
 use Rattle.refusal.specs.Computed.{accepted}
-use Rattle.refusal.proofs.Deciding.{numbered, given-refused, answered-given, none-answered, not-given-append, not-given-join}
+use Rattle.refusal.proofs.Given.{numbered, given-refused, answered-given, none-answered, not-given-append, not-given-join}
 use Rattle.meaning.specs.Syntax.{Seq, Prop, free}
 use Rattle.meaning.specs.Words.{Tail, none, tops, bots, word}
 use Rattle.meaning.specs.Meaning.{Sat, Accepted, Level, Ends}
 use Rattle.meaning.specs.Signal.{signal}
 use Rattle.meaning.specs.Rewriting.{rewS, rewP}
 use Rattle.meaning.proofs.Theorems as Meaning
-use Rattle.table.specs.Operators.{sequence, property}
-use Rattle.table.specs.Nodes.{root}
-use Rattle.table.specs.Trees.{Ref, RootS, RootP}
+use Rattle.nodes.specs.Operators.{sequence, property}
+use Rattle.nodes.specs.Nodes.{root}
+use Rattle.nodes.specs.Clocks.{Ref}
+use Rattle.table.specs.Trees.{RootS, RootP}
 use Rattle.table.specs.Check as Check
 use Rattle.table.proofs.Reading.{uniqueS, uniqueP}
 use Rattle.table.proofs.Theorems.{accepted-root}

@@ -7,7 +7,7 @@ use mathlib.Core.Bool.{Bool, false}
 use mathlib.Core.List.{List, [], _∷_, _++_}
 use Prim.Native.Nat.{ℕ, _+_, _*_, _-_, _<_, _≤_}
 use lib.ListN.{length, take}
-use Rattle.telling.specs.Tests.{Tells}
+use Rattle.telling.specs.Tells.{Tells}
 use Rattle.telling.proofs.Telling.{is-map, is-as}
 use Rattle.positions.specs.declared.PositionSet.{PositionSet}
 use Rattle.positions.specs.Member.{has, Is}
@@ -16,7 +16,7 @@ use Rattle.refusal.specs.declared.Verdict.{Verdict}
 use Rattle.refusal.specs.First.{Answers, NotGiven}
 use Rattle.refusal.specs.Heading.{count}
 use Rattle.refusal.specs.Computed.{accepted}
-use Rattle.refusal.proofs.Deciding.{none-given, answers-after}
+use Rattle.refusal.proofs.Given.{none-given, answers-after}
 use Rattle.meaning.specs.declared.Level.{Level}
 use Rattle.meaning.specs.Syntax.{Seq, Prop, free}
 use Rattle.meaning.specs.Words.{word, none, tops, bots}
@@ -24,12 +24,13 @@ use Rattle.meaning.specs.Meaning as Meaning
 use Rattle.meaning.specs.Signal.{signal}
 use Rattle.meaning.specs.Rewriting.{rewS, rewP}
 use Rattle.meaning.proofs.Leveling.{level-from}
-use Rattle.table.specs.Operators.{sequence, property}
-use Rattle.table.specs.Nodes.{sortAt, root}
-use Rattle.table.specs.Trees.{Ref, RootS, RootP}
+use Rattle.nodes.specs.Operators.{sequence, property}
+use Rattle.nodes.specs.Nodes.{sortAt, root}
+use Rattle.nodes.specs.Clocks.{Ref}
+use Rattle.table.specs.Trees.{RootS, RootP}
 use Rattle.table.specs.Check as Check
 use Rattle.table.specs.Check.{Checks}
-use Rattle.table.proofs.Built.{Built}
+use Rattle.nodes.proofs.Built.{Built}
 use Rattle.table.proofs.Standing.{sequence-in, property-in}
 use Rattle.table.proofs.Checking.{sound, sorts}
 use Rattle.rewrite.specs.declared.Rewriting.{Rewriting}

@@ -10,18 +10,18 @@ use lib.ListN.{length}
 use Rattle.refusal.specs.Heading.{count}
 use Rattle.refusal.specs.Computed.{accepted}
 use Rattle.meaning.specs.Syntax.{Bexp, Seq, Prop}
-use Rattle.table.specs.declared.nodes.Raw.{Raw}
-use Rattle.table.specs.declared.nodes.Node.{Node}
-use Rattle.table.specs.declared.nodes.Node.the-variants.{Boolean, Sequence, Property}
-use Rattle.table.specs.declared.nodes.BooleanOp.the-variants.{Constant, Signal, Not, And, Or}
-use Rattle.table.specs.declared.nodes.SequenceOp.the-variants.{Letter, Then, Fused, Either, Empty, Repeat, Clocked}
-use Rattle.table.specs.declared.nodes.PropertyOp.the-variants.{Strong, Weak, Negated, AnyOf, BothOf, Implies, Next, Until, Ticked}
-use Rattle.table.specs.Operators.{operators, lookup, rowOf, bytesOf, booleanBytes, sequenceBytes, propertyBytes}
-use Rattle.table.specs.Nodes.{nodeAt, Operand, WellFormed}
+use Rattle.nodes.specs.declared.Raw.{Raw}
+use Rattle.nodes.specs.declared.Node.{Node}
+use Rattle.nodes.specs.declared.Node.the-variants.{Boolean, Sequence, Property}
+use Rattle.nodes.specs.declared.BooleanOp.the-variants.{Constant, Signal, Not, And, Or}
+use Rattle.nodes.specs.declared.SequenceOp.the-variants.{Letter, Then, Fused, Either, Empty, Repeat, Clocked}
+use Rattle.nodes.specs.declared.PropertyOp.the-variants.{Strong, Weak, Negated, AnyOf, BothOf, Implies, Next, Until, Ticked}
+use Rattle.nodes.specs.Operators.{operators, lookup, rowOf, bytesOf, booleanBytes, sequenceBytes, propertyBytes}
+use Rattle.nodes.specs.Nodes.{nodeAt, Operand, WellFormed}
 use Rattle.table.specs.Trees.{BooleanAt, b-const, b-sig, b-not, b-and, b-or, SequenceAt, s-one, s-cat, s-fuse, s-alt, s-empty, s-plus, s-clock, PropertyAt, p-strong, p-weak, p-neg, p-either, p-both, p-imp, p-next, p-until, p-clock}
 use Rattle.table.specs.Check.{Checks}
-use Rattle.table.proofs.Forming.{coded-as}
-use Rattle.table.proofs.Shapes.{Formed, Suits, down}
+use Rattle.nodes.proofs.Coded.{coded-as}
+use Rattle.nodes.proofs.Shapes.{Formed, Suits, down}
 use Rattle.table.proofs.Checking.{sound}
 use Rattle.rewrite.specs.Numbers.{isClock}
 use Rattle.rows.specs.Shares.{share, longest, wordIn, HasRow}

@@ -8,12 +8,12 @@ use Rattle.refusal.specs.declared.Verdict.{Verdict}
 use Rattle.refusal.specs.First.{Refusal, Answers, NotGiven}
 use Rattle.refusal.specs.Heading.{count}
 use Rattle.refusal.specs.Computed.{accepted}
-use Rattle.refusal.proofs.Deciding.{none-given, not-given-append}
-use Rattle.table.specs.Operators.{sequence, property}
-use Rattle.table.specs.Trees.{Ref}
+use Rattle.refusal.proofs.Given.{none-given, not-given-append}
+use Rattle.nodes.specs.Operators.{sequence, property}
+use Rattle.nodes.specs.Clocks.{Ref}
 use Rattle.table.specs.Check as Check
 use Rattle.table.specs.Check.{Checks}
-use Rattle.table.proofs.Built.{Built}
+use Rattle.nodes.proofs.Built.{Built}
 use Rattle.table.proofs.Checking.{checks-none, sound}
 use Rattle.rewrite.specs.Clocks.{Clocks}
 use Rattle.rewrite.specs.Numbers.{newCount}

@@ -9,16 +9,16 @@ use native.Mathlib.Decide.{decLt}
 use lib.Dec.{leb}
 use lib.ListN.{length}
 use borrow.Author.Tests.{le-leb, lt-leb, eq-eqb, ne-eqb}
-use Rattle.telling.specs.Tests.{Tells}
+use Rattle.telling.specs.Tells.{Tells}
 use Rattle.telling.proofs.Telling.{is-map, is-like, is-true, is-and, is-and-then, is-or, is-not, is-eq, is-test, is-some-at, decide}
 use Rattle.meaning.specs.Syntax.{Seq, Prop, strong, weak, neg, either, both, implies, next, until, free}
 use Rattle.meaning.specs.Words.{word, Tail, none, tops, bots, other}
 use Rattle.meaning.specs.Meaning.{Strong, Sat}
 use Rattle.meaning.specs.Signal.{signal}
-use Rattle.meaning.proofs.Closed.{bar-word}
-use Rattle.table.specs.declared.nodes.Node.the-variants.{Property}
-use Rattle.table.specs.declared.nodes.PropertyOp.{PropertyOp}
-use Rattle.table.specs.declared.nodes.PropertyOp.the-variants as op
+use Rattle.meaning.proofs.Words.{bar-word}
+use Rattle.nodes.specs.declared.Node.the-variants.{Property}
+use Rattle.nodes.specs.declared.PropertyOp.{PropertyOp}
+use Rattle.nodes.specs.declared.PropertyOp.the-variants as op
 use Rattle.rows.specs.Shares.{topWord, longest, wordIn, bitIn, wordOf}
 use Rattle.rows.specs.Bits.{starts, follows, untilFrom, untilLast, propertyBit}
 use Rattle.rows.specs.Rows.{set64}

@@ -9,17 +9,17 @@ use mathlib.Core.List.{List, [], _∷_, _++_}
 use Prim.Native.Nat.{ℕ, _+_, _*_, _-_, _<_, _≤_}
 use lib.Dec.{eqb}
 use lib.ListN.{length, take}
-use Rattle.telling.specs.Tests.{Tells}
+use Rattle.telling.specs.Tells.{Tells}
 use Rattle.telling.proofs.Telling.{passed, failed, decide, is-and, is-not, is-eq}
 use Rattle.refusal.specs.declared.Verdict.{Verdict}
 use Rattle.refusal.specs.First.{Refusal, when, Answers, NotGiven}
 use Rattle.refusal.specs.Heading.{count}
 use Rattle.refusal.specs.Computed.{accepted, refused}
-use Rattle.refusal.proofs.Deciding.{reached, answers-after, answers-beyond}
-use Rattle.table.specs.Nodes.{sortAt, root}
+use Rattle.refusal.proofs.Given.{reached, answers-after, answers-beyond}
+use Rattle.nodes.specs.Nodes.{sortAt, root}
 use Rattle.table.specs.Check as Check
 use Rattle.table.specs.Check.{Checks}
-use Rattle.table.proofs.Built.{Built}
+use Rattle.nodes.proofs.Built.{Built}
 use Rattle.table.proofs.Checking.{checks-none, not-of-table, sound}
 use Rattle.rewrite.specs.declared.Rewriting.{Rewriting}
 use Rattle.rewrite.specs.Numbers.{newCount}

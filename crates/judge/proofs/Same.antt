@@ -15,11 +15,11 @@ use Rattle.refusal.specs.Heading.{count}
 use Rattle.refusal.specs.Computed.{accepted}
 use Rattle.meaning.specs.Syntax.{Bexp, Seq, Prop}
 use Rattle.meaning.specs.Words.{Tail, none, tops, bots}
-use Rattle.table.specs.declared.nodes.Node.{Node}
-use Rattle.table.specs.declared.nodes.Node.the-variants.{Boolean, Sequence, Property}
-use Rattle.table.specs.Nodes.{nodeAt, WellFormed}
+use Rattle.nodes.specs.declared.Node.{Node}
+use Rattle.nodes.specs.declared.Node.the-variants.{Boolean, Sequence, Property}
+use Rattle.nodes.specs.Nodes.{nodeAt, WellFormed}
 use Rattle.table.specs.Check.{Checks}
-use Rattle.table.proofs.Shapes.{sortOf, sort-is}
+use Rattle.nodes.proofs.Shapes.{sortOf, sort-is}
 use Rattle.table.proofs.Standing.{boolean-in, sequence-in, property-in}
 use Rattle.table.proofs.Checking.{sound}
 use Rattle.rows.specs.Shares.{share, topWord, wordIn, wordOf}

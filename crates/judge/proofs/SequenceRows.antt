@@ -9,17 +9,17 @@ use native.Mathlib.Omega.{arith}
 use native.Mathlib.Decide.{decLt}
 use lib.ListN.{length, getD}
 use borrow.Author.Tests.{le-leb, lt-leb, le-ltb, ne-eqb}
-use Rattle.telling.specs.Tests.{Tells}
+use Rattle.telling.specs.Tells.{Tells}
 use Rattle.telling.proofs.Telling.{is-map, is-like, is-false, is-and, is-and-then, is-or, is-eq, is-lt, is-test, is-some-at, is-as}
 use Rattle.meaning.specs.Syntax.{Bexp, Seq, one, cat, fuse, alt, empty, plus}
 use Rattle.meaning.specs.Words.{none}
 use Rattle.meaning.specs.Meaning.{value, satisfies, Match, last, more}
 use Rattle.meaning.specs.Signal.{signal}
 use Rattle.meaning.proofs.Unroll.{plus-first}
-use Rattle.meaning.proofs.Answers.{word-out}
-use Rattle.table.specs.declared.nodes.Node.the-variants.{Sequence}
-use Rattle.table.specs.declared.nodes.SequenceOp.{SequenceOp}
-use Rattle.table.specs.declared.nodes.SequenceOp.the-variants.{Letter, Then, Fused, Either, Empty, Repeat}
+use Rattle.meaning.proofs.Words.{word-out}
+use Rattle.nodes.specs.declared.Node.the-variants.{Sequence}
+use Rattle.nodes.specs.declared.SequenceOp.{SequenceOp}
+use Rattle.nodes.specs.declared.SequenceOp.the-variants.{Letter, Then, Fused, Either, Empty, Repeat}
 use Rattle.rows.specs.Shares.{topWord, longest, wordIn, bitIn}
 use Rattle.rows.specs.Bits.{reached, longer, repeated, sequenceBit, goesOn, startsOpen, topBit}
 use Rattle.rows.specs.Rows.{set64}

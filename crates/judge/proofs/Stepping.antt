@@ -8,7 +8,7 @@ use native.Mathlib.Omega.{arith}
 use native.Mathlib.Nat.{eq-or-lt-of-le, le-of-suc-le-suc}
 use lib.Dec.{T}
 use lib.ListN.{length, getD}
-use Rattle.telling.specs.Tests.{Tells}
+use Rattle.telling.specs.Tells.{Tells}
 use Rattle.telling.proofs.Telling.{is-map, is-and, is-or, is-imp, is-le, is-eq, is-test, is-every, is-some-at, agree, side}
 use Rattle.meaning.specs.Syntax.{Bexp, Seq, one, cat, fuse, alt, empty, plus, Prop, weak, implies, next, until, free}
 use Rattle.meaning.specs.Words.{real, word, Tail, none, tops, bots, inside, after}
@@ -17,7 +17,9 @@ use Rattle.meaning.specs.Signal.{signal}
 use Rattle.meaning.proofs.Order.{match-le}
 use Rattle.meaning.proofs.Unroll.{until-step}
 use Rattle.meaning.proofs.Eval.{matchB, is-match, topB, is-top}
-use Rattle.meaning.proofs.Answers.{full, full-top, match-any, match-shut, is-strong, is-weak, weakB, ansB, is-ans, ended, botted, fold, shut, word-out, word-inside}
+use Rattle.meaning.proofs.Words.{full, full-top, ended, botted, shut, word-out, word-inside}
+use Rattle.meaning.proofs.Sequences.{match-any, match-shut, is-strong, is-weak, weakB}
+use Rattle.meaning.proofs.Answers.{ansB, is-ans, fold}
 use Rattle.judge.specs.Rows.{Inside, Onward}
 
 pub word-at : (xs : List ℕ) (t : Tail) (i : ℕ) → i < length xs → word xs t i ≡ real (getD xs i 0)

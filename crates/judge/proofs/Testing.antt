@@ -10,21 +10,21 @@ use borrow.Author.Tests.{eqb-true, eq-eqb}
 use native.Mathlib.Numerals.{add-one}
 use lib.Dec.{eqb}
 use lib.ListN.{length}
-use Rattle.telling.specs.Tests.{Tells, some}
+use Rattle.telling.specs.Tells.{Tells, some}
 use Rattle.telling.proofs.Telling.{some-next, passes, is-and, is-test, passed, is-map, is-and-then, is-or, is-not, is-some, is-le}
 use Rattle.refusal.specs.Heading.{count}
 use Rattle.meaning.specs.Syntax.{Seq}
-use Rattle.table.specs.declared.nodes.Raw.{Raw}
-use Rattle.table.specs.declared.nodes.Node.the-variants.{Property}
-use Rattle.table.specs.declared.nodes.PropertyOp.the-variants.{Implies}
-use Rattle.table.specs.Operators.{operators, lookup, nodeOf, bytesOf, propertyBytes}
-use Rattle.table.specs.Nodes.{rawAt, nodeAt, WellFormed}
+use Rattle.nodes.specs.declared.Raw.{Raw}
+use Rattle.nodes.specs.declared.Node.the-variants.{Property}
+use Rattle.nodes.specs.declared.PropertyOp.the-variants.{Implies}
+use Rattle.nodes.specs.Operators.{operators, lookup, nodeOf, bytesOf, propertyBytes}
+use Rattle.nodes.specs.Nodes.{rawAt, nodeAt, WellFormed}
 use Rattle.table.specs.Trees.{SequenceAt}
-use Rattle.table.proofs.Forming.{coded-as}
-use Rattle.table.proofs.Shapes.{down}
+use Rattle.nodes.proofs.Coded.{coded-as}
+use Rattle.nodes.proofs.Shapes.{down}
 use Rattle.table.proofs.Standing.{sequence-in}
 use Rattle.table.proofs.Reading.{uniqueS}
-use Rattle.table.proofs.Built.{Built}
+use Rattle.nodes.proofs.Built.{Built}
 use Rattle.rows.specs.Shares.{share, longest, wordIn, HasRow}
 use Rattle.rows.specs.Bits.{starts}
 use Rattle.judge.specs.Tested.{ImpliesAt, Matched, Tested}

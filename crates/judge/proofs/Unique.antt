@@ -1,23 +1,19 @@
 -- The statements of the judge and of match ends leave nothing open: two answers that fit are the same, and so are the workspaces left. Assumes nothing.
-use borrow.Author.Tests.{eqb-true, eqb-false}
-use mathlib.Core.Path.{_≡_, refl, _∙_, sym, ap, subst}
-use mathlib.Core.Bool.{Bool, true, false}
+use mathlib.Core.Path.{_≡_, refl, _∙_, sym, subst}
 use mathlib.Core.List.{List, _∷_, _++_}
 use Prim.Native.Nat.{ℕ}
-use lib.Dec.{eqb}
 use lib.ListN.{length}
-use Rattle.telling.specs.Tests.{Tells}
+use Rattle.telling.specs.Tells.{Tells}
 use Rattle.telling.proofs.Telling.{same-test}
 use Rattle.positions.proofs.Laws.{ext}
-use Rattle.refusal.specs.declared.Verdict.{Verdict}
 use Rattle.refusal.specs.First.{Refusal, NotGiven}
 use Rattle.refusal.specs.Computed.{accepted}
-use Rattle.refusal.proofs.Deciding.{Singles, single-when, singles-append, answers-unique}
+use Rattle.refusal.proofs.Unique.{Singles, single-when, singles-append, by-verdict}
 use Rattle.meaning.specs.Syntax.{Seq, Prop}
 use Rattle.meaning.specs.Meaning.{Level, Ends}
 use Rattle.meaning.specs.Signal.{signal}
 use Rattle.meaning.proofs.Theorems.{level-unique}
-use Rattle.table.specs.Trees.{Ref}
+use Rattle.nodes.specs.Clocks.{Ref}
 use Rattle.table.specs.Check as Check
 use Rattle.table.proofs.Checking.{table-singles}
 use Rattle.table.proofs.Reading.{uniqueS, uniqueP}
@@ -91,33 +87,19 @@ module _ (s : List ℕ) (x : Refusal) (rest : List Refusal) (n : NotGiven (Check
 -- ---- the two entry points
 
 pub judge-unique : (s xs d : List ℕ) (r q : Judgement) (d′ e′ : List ℕ) → Judges s xs d r d′ → Judges s xs d q e′ → (r ≡ q) × (d′ ≡ e′)
-judge-unique s xs d r q d′ e′ a b = go (eqb (r .verdict .number) 0) refl
-  where
-    same : r .verdict ≡ q .verdict
-    same = answers-unique (judgeRefusals s (length xs) (length d)) (judge-singles s (length xs) (length d)) (r .verdict) (q .verdict) (a .answer) (b .answer)
-
-    go : (t : Bool) → eqb (r .verdict .number) 0 ≡ t → (r ≡ q) × (d′ ≡ e′)
-    go true t =
-        let z = eqb-true (r .verdict .number) 0 t in
-        same-judgement s _ (judgeRest s (length xs) (length d)) (judge-passes s (length xs) (length d) (r .verdict) z (a .answer)) xs d r q d′ e′ same (a .accepted z) (b .accepted (sym (ap (λ (v : Verdict). v .number) same) ∙ z))
-    go false t =
-        let z = eqb-false (r .verdict .number) 0 t in
-        let (l, c, w) = a .refused z in
-        let (l′, c′, w′) = b .refused (λ y. z (ap (λ (v : Verdict). v .number) same ∙ y)) in
-        (λ i. record { verdict = same i; level = record { number = (l ∙ sym l′) i }; tested = (c ∙ sym c′) i }, w ∙ sym w′)
+judge-unique s xs d r q d′ e′ a b =
+    by-verdict (judgeRefusals s (length xs) (length d)) (judge-singles s (length xs) (length d)) (r .verdict) (q .verdict) (a .answer) (b .answer)
+    (λ v y z. same-judgement s _ (judgeRest s (length xs) (length d)) (judge-passes s (length xs) (length d) (r .verdict) y (a .answer)) xs d r q d′ e′ v (a .accepted y) (b .accepted z))
+    (λ v y z.
+    let (l, c, w) = a .refused y in
+    let (l′, c′, w′) = b .refused z in
+    (λ i. record { verdict = v i; level = record { number = (l ∙ sym l′) i }; tested = (c ∙ sym c′) i }, w ∙ sym w′))
 
 pub ends-unique : (s xs d : List ℕ) (start : ℕ) (r q : MatchEnds) (d′ e′ : List ℕ) → EndsMatches s xs d start r d′ → EndsMatches s xs d start q e′ → (r ≡ q) × (d′ ≡ e′)
-ends-unique s xs d start r q d′ e′ a b = go (eqb (r .verdict .number) 0) refl
-  where
-    same : r .verdict ≡ q .verdict
-    same = answers-unique (endsRefusals s (length xs) start (length d)) (ends-singles s (length xs) start (length d)) (r .verdict) (q .verdict) (a .answer) (b .answer)
-
-    go : (t : Bool) → eqb (r .verdict .number) 0 ≡ t → (r ≡ q) × (d′ ≡ e′)
-    go true t =
-        let z = eqb-true (r .verdict .number) 0 t in
-        same-ends s _ (endsRest s (length xs) start (length d)) (ends-passes s (length xs) start (length d) (r .verdict) z (a .answer)) xs d start r q d′ e′ same (a .accepted z) (b .accepted (sym (ap (λ (v : Verdict). v .number) same) ∙ z))
-    go false t =
-        let z = eqb-false (r .verdict .number) 0 t in
-        let (l, c, w) = a .refused z in
-        let (l′, c′, w′) = b .refused (λ y. z (ap (λ (v : Verdict). v .number) same ∙ y)) in
-        (λ i. record { verdict = same i; mask = record { bits = (l ∙ sym l′) i }; top = (c ∙ sym c′) i }, w ∙ sym w′)
+ends-unique s xs d start r q d′ e′ a b =
+    by-verdict (endsRefusals s (length xs) start (length d)) (ends-singles s (length xs) start (length d)) (r .verdict) (q .verdict) (a .answer) (b .answer)
+    (λ v y z. same-ends s _ (endsRest s (length xs) start (length d)) (ends-passes s (length xs) start (length d) (r .verdict) y (a .answer)) xs d start r q d′ e′ v (a .accepted y) (b .accepted z))
+    (λ v y z.
+    let (l, c, w) = a .refused y in
+    let (l′, c′, w′) = b .refused z in
+    (λ i. record { verdict = v i; mask = record { bits = (l ∙ sym l′) i }; top = (c ∙ sym c′) i }, w ∙ sym w′))

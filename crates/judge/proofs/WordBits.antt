@@ -5,11 +5,11 @@ use mathlib.Core.List.{List}
 use Prim.Native.Nat.{ℕ, _<_}
 use lib.Dec.{ltb}
 use borrow.Author.Tests.{lt-ltb}
-use Rattle.telling.specs.Tests.{Tells}
+use Rattle.telling.specs.Tells.{Tells}
 use Rattle.telling.proofs.Telling.{is-map, is-and, is-lt, is-as}
 use Rattle.positions.specs.Member.{has}
 use Rattle.positions.proofs.Laws.{has-collect}
-use Rattle.table.specs.declared.nodes.Node.{Node}
+use Rattle.nodes.specs.declared.Node.{Node}
 use Rattle.rows.specs.Shares.{share}
 use Rattle.rows.specs.Rows.{set64, nodeWord}
 

@@ -5,10 +5,10 @@ use mathlib.Core.List.{List, [], _∷_, _++_}
 use Prim.Native.Nat.{ℕ, _+_, _*_, _<_, _≤_}
 use lib.Dec.{eqb}
 use lib.ListN.{length, take}
-use Rattle.telling.specs.Tests.{some}
+use Rattle.telling.specs.Tells.{some}
 use Rattle.refusal.specs.First.{Refusal, Answers}
 use Rattle.meaning.specs.Levels.{levelOf}
-use Rattle.table.specs.Nodes.{rawAt}
+use Rattle.nodes.specs.Nodes.{rawAt}
 use Rattle.table.specs.Check as Check
 use Rattle.rewrite.specs.declared.Rewriting.{Rewriting}
 use Rattle.rewrite.specs.Numbers.{newCount}

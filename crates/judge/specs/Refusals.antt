@@ -4,8 +4,8 @@ use mathlib.Core.Path.{_≡_}
 use mathlib.Core.List.{List, [], _∷_, _++_}
 use Prim.Native.Nat.{ℕ, _*_, _<_}
 use Rattle.refusal.specs.First.{Refusal, when}
-use Rattle.table.specs.Operators.{sequence, property}
-use Rattle.table.specs.Nodes.{sortAt, root}
+use Rattle.nodes.specs.Operators.{sequence, property}
+use Rattle.nodes.specs.Nodes.{sortAt, root}
 use Rattle.table.specs.Check as Check
 use Rattle.rewrite.specs.Numbers.{newCount}
 use Rattle.rewrite.specs.Rewrites.{OfClocks, tooMany}

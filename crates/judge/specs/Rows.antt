@@ -4,14 +4,14 @@ use mathlib.Core.Bool.{false}
 use mathlib.Core.List.{List}
 use Prim.Native.Nat.{ℕ, _*_, _<_, _≤_}
 use lib.ListN.{length, getD}
-use Rattle.telling.specs.Tests.{Tells}
+use Rattle.telling.specs.Tells.{Tells}
 use Rattle.positions.specs.Member.{has}
 use Rattle.refusal.specs.Heading.{count}
 use Rattle.meaning.specs.Syntax.{Bexp, Seq, Prop, free}
 use Rattle.meaning.specs.Words.{word, Tail, none, tops}
 use Rattle.meaning.specs.Meaning.{value, Match, Sat}
 use Rattle.meaning.specs.Signal.{signal}
-use Rattle.table.specs.Nodes.{nodeAt}
+use Rattle.nodes.specs.Nodes.{nodeAt}
 use Rattle.table.specs.Trees.{BooleanAt, SequenceAt, PropertyAt}
 use Rattle.rows.specs.Shares.{share, topWord, wordIn, wordOf}
 

@@ -9,10 +9,10 @@ use Rattle.meaning.specs.Syntax.{Seq, free}
 use Rattle.meaning.specs.Words.{word, none}
 use Rattle.meaning.specs.Meaning.{Match}
 use Rattle.meaning.specs.Signal.{signal}
-use Rattle.table.specs.Nodes.{nodeAt}
+use Rattle.nodes.specs.Nodes.{nodeAt}
 use Rattle.table.specs.Trees.{SequenceAt}
-use Rattle.table.specs.declared.nodes.Node.the-variants.{Property}
-use Rattle.table.specs.declared.nodes.PropertyOp.the-variants.{Implies}
+use Rattle.nodes.specs.declared.Node.the-variants.{Property}
+use Rattle.nodes.specs.declared.PropertyOp.the-variants.{Implies}
 
 -- node k of the table t is a `|->`, of the sequence at x
 pub record ImpliesAt (t : List ℕ) (k x : ℕ) : Type 0 where

@@ -3,6 +3,8 @@ mod reading;
 mod settling;
 
 use meaning::Level;
+use nodes::operators::PROPERTY;
+use nodes::operators::SEQUENCE;
 use positions::PositionSet;
 use reading::level_of;
 use reading::tested;
@@ -11,8 +13,6 @@ use rows::cells::TOP_WORD;
 use rows::cells::word_at;
 use rows::fill;
 use settling::settle;
-use table::operators::PROPERTY;
-use table::operators::SEQUENCE;
 ghost use Rattle.judge.specs.Judges.{Judges, EndsMatches};
 
 // What the judge answers.

@@ -1,14 +1,14 @@
 // What is read off the rows: the level of the root, and whether the table was tested.
 use meaning::Level;
+use nodes::node_at;
 use refusal::wide;
 use rows::cells::starts_of;
 use rows::cells::word_at;
-use table::nodes::node_at;
 ghost use mathlib.Core.Path.{_≡_};
 ghost use mathlib.Core.Bool.{true, _&&_};
 ghost use Prim.Native.Nat.{_≤_};
 ghost use lib.ListN.{length};
-ghost use Rattle.telling.specs.Tests.{some};
+ghost use Rattle.telling.specs.Tells.{some};
 ghost use Rattle.rows.specs.Shares.{longest, HasRow};
 ghost use Rattle.rows.specs.Bits.{starts};
 ghost use Rattle.judge.specs.Computed.{levelIn, testedIn, Testing};

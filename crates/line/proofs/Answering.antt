@@ -11,11 +11,11 @@ use Rattle.refusal.specs.declared.Verdict.{Verdict}
 use Rattle.refusal.specs.First.{Refusal, Answers, LowestSuch}
 use Rattle.refusal.specs.Heading.{count}
 use Rattle.telling.proofs.Telling.{decide, is-eq}
-use Rattle.refusal.proofs.Deciding.{none-given, not-given-append, answers-after, answers-beyond}
+use Rattle.refusal.proofs.Given.{none-given, not-given-append, answers-after, answers-beyond}
 use Rattle.meaning.specs.Syntax.{Prop}
 use Rattle.meaning.specs.Meaning.{Level, level3, level2, level1, level0}
 use Rattle.meaning.specs.Signal.{signal}
-use Rattle.table.specs.Operators.{sequence}
+use Rattle.nodes.specs.Operators.{sequence}
 use Rattle.table.specs.Check as Check
 use Rattle.rewrite.specs.Rewrites.{tooMany}
 use Rattle.rewrite.specs.Computed.{put}

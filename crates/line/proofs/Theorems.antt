@@ -1,21 +1,20 @@
 -- The statement of the program's line leaves nothing open, and reading 997 bytes is enough. Assumes nothing.
 use native.Mathlib.Omega.{arith}
 use native.Mathlib.Nat.{le-of-suc-le-suc, lt-of-not-le, min-le-right}
-use borrow.Author.Tests.{eqb-true, eqb-false}
 use mathlib.Core.Path.{_≡_, refl, _∙_, sym, ap, subst}
-use mathlib.Core.Logic.{_⊎_, inl, inr, ⊎-elim}
-use mathlib.Core.Bool.{Bool, true, false}
+use mathlib.Core.Logic.{inl, inr, ⊎-elim}
 use mathlib.Core.List.{List, _∷_, _++_}
 use Prim.Native.Nat.{ℕ, _+_, _*_, _<_, _≤_, min}
-use lib.Dec.{eqb}
 use lib.ListN.{length, getD, take, drop, length-take, length-drop}
 use lib.Seq.{getD-take, take-take, take-add, drop-at, length-take-le}
 use Rattle.telling.proofs.Telling.{decide, is-lt}
 use Rattle.refusal.specs.declared.Verdict.{Verdict}
 use Rattle.refusal.specs.First.{Refusal, when, Answers}
 use Rattle.refusal.specs.Heading.{number, count, version, mark, headingRefusals}
-use Rattle.refusal.proofs.Deciding.{Singles, single-when, singles-append, answers-unique, answers-after, answers-none, none-given, not-given-append}
-use Rattle.table.specs.Operators.{sequence}
+use Rattle.refusal.proofs.Given.{answers-after, answers-none, none-given, not-given-append}
+use Rattle.refusal.proofs.Unique.{Singles, single-when, singles-append, by-verdict}
+use Rattle.record.proofs.Unique.{record-singles}
+use Rattle.nodes.specs.Operators.{sequence}
 use Rattle.table.specs.Check as Check
 use Rattle.table.proofs.Checking.{table-singles}
 use Rattle.rewrite.specs.Rewrites.{tooMany}
@@ -30,29 +29,19 @@ use Rattle.line.specs.Program.{tablePart, recordPart, samplesOf, cleared
 -- ---- no second line
 
 line-singles : (s : List ℕ) → Singles (refusals s)
-unfolding refusals Record.refusals
+unfolding refusals
 line-singles s =
-    singles-append (Check.refusals (tablePart s)) _ (table-singles (tablePart s))
-    (single-when 12 _, (single-when 13 _, (single-when 1 _, (single-when 2 _, (single-when 3 _, (single-when 10 _, (single-when 5 _, (single-when 15 _, tt))))))))
+    singles-append (Check.refusals (tablePart s)) _ (table-singles (tablePart s)) (single-when 12 _, (single-when 13 _, record-singles (recordPart s) longest))
 
 pub line-unique : (s line other : List ℕ) → LineFor s line → LineFor s other → line ≡ other
-line-unique s line other a b = go (eqb (a .verdict .number) 0) refl
+line-unique s line other a b =
+    by-verdict (refusals s) (line-singles s) (a .verdict) (b .verdict) (a .answer) (b .answer)
+    (λ v y z. levels (a .accepted y) (b .accepted z)) (λ v y z. a .refused y ∙ ap refusedLine v ∙ sym (b .refused z))
   where
-    same : a .verdict ≡ b .verdict
-    same = answers-unique (refusals s) (line-singles s) (a .verdict) (b .verdict) (a .answer) (b .answer)
-
     levels : LevelLine s line → LevelLine s other → line ≡ other
     levels l m =
         let e : l .judgement ≡ m .judgement = judge-unique (tablePart s) (samplesOf s) cleared (l .judgement) (m .judgement) (l .workspace) (m .workspace) (l .judged) (m .judged) .0 in
         l .is ∙ ap (λ (r : Judgement). levelLine (r .level .number) (r .tested)) e ∙ sym (m .is)
-
-    go : (t : Bool) → eqb (a .verdict .number) 0 ≡ t → line ≡ other
-    go true t =
-        let z = eqb-true (a .verdict .number) 0 t in
-        levels (a .accepted z) (b .accepted (sym (ap (λ (v : Verdict). v .number) same) ∙ z))
-    go false t =
-        let z = eqb-false (a .verdict .number) 0 t in
-        a .refused z ∙ ap refusedLine same ∙ sym (b .refused (λ y. z (ap (λ (v : Verdict). v .number) same ∙ y)))
 
 pub says-unique : (s d : List ℕ) (r q : ℕ) (d′ e′ : List ℕ) → Says s d r d′ → Says s d q e′ → (r ≡ q) × (d′ ≡ e′)
 says-unique s d r q d′ e′ a b =

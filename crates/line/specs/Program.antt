@@ -4,14 +4,14 @@ use mathlib.Core.Bool.{Bool}
 use mathlib.Core.List.{List, _∷_, _++_}
 use Prim.Native.Nat.{ℕ, _+_, _*_}
 use lib.ListN.{length, take, drop, replicate}
-use Rattle.telling.specs.Tests.{Tells}
+use Rattle.telling.specs.Tells.{Tells}
 use Rattle.refusal.specs.declared.Verdict.{Verdict}
 use Rattle.refusal.specs.First.{Refusal, Answers}
 use Rattle.refusal.specs.Heading.{count}
 use Rattle.meaning.specs.Syntax.{Prop}
 use Rattle.meaning.specs.Meaning.{Level}
 use Rattle.meaning.specs.Signal.{signal}
-use Rattle.table.specs.Operators.{sequence}
+use Rattle.nodes.specs.Operators.{sequence}
 use Rattle.table.specs.Trees.{RootP}
 use Rattle.table.specs.Check as Check
 use Rattle.rewrite.specs.Tables.{newTable}

@@ -1,54 +1,15 @@
 -- The three answers of a record: strong implies neutral implies weak, a closed verdict never reopens, a level is one number.
 -- Assumes nothing.
 use mathlib.Core.Bool.{Bool}
-use mathlib.Core.Path.{_≡_, refl, fun-ext}
-use mathlib.Core.List.{List, [], _∷_, _++_, append-nil}
-use Prim.Native.Nat.{ℕ, zero, suc}
+use mathlib.Core.Path.{_≡_, refl}
+use mathlib.Core.List.{List, _++_}
+use Prim.Native.Nat.{ℕ, zero}
 use native.Mathlib.Omega.{arith}
-use native.Mathlib.Nat.{le-of-suc-le-suc}
 use Rattle.meaning.specs.Syntax.{Prop, free}
-use Rattle.meaning.specs.Words.{bar, word, Tail, none, tops, bots, other}
+use Rattle.meaning.specs.Words.{none, tops, bots}
 use Rattle.meaning.specs.Meaning.{Accepted, Neutral, Weakly, Strongly, Level, level3, level2, level1, level0}
-use Rattle.meaning.proofs.Order.{from-bot, to-top, same, from-real, stay, Proper}
-use Rattle.meaning.proofs.Mono.{_⊑_, mono}
-
-module _ {S : Type 0} where
-  pub word-proper : (xs : List S) (t : Tail) → Proper (word xs t)
-  unfolding word
-  word-proper [] t p q l = stay
-  word-proper (x ∷ xs) t zero q l = from-real
-  word-proper (x ∷ xs) t (suc p) zero l = absurd (omega arith)
-  word-proper (x ∷ xs) t (suc p) (suc q) l = word-proper xs t p q (le-of-suc-le-suc l)
-
-  -- the samples then ⊥ for ever lie below every continuation, the samples then ⊤ for ever above
-  pub bots-below : (xs ys : List S) (t : Tail) → word xs bots ⊑ word (xs ++ ys) t
-  unfolding word
-  bots-below [] ys t p = from-bot
-  bots-below (x ∷ xs) ys t zero = same
-  bots-below (x ∷ xs) ys t (suc p) = bots-below xs ys t p
-
-  pub tops-above : (xs ys : List S) (t : Tail) → word (xs ++ ys) t ⊑ word xs tops
-  unfolding word
-  tops-above [] ys t p = to-top
-  tops-above (x ∷ xs) ys t zero = same
-  tops-above (x ∷ xs) ys t (suc p) = tops-above xs ys t p
-
-  pub tail-below : (xs : List S) (t : Tail) → word xs bots ⊑ word xs t
-  tail-below xs t = rw append-nil at (bots-below xs [] t)
-
-  pub tail-above : (xs : List S) (t : Tail) → word xs t ⊑ word xs tops
-  tail-above xs t = rw append-nil at (tops-above xs [] t)
-
-  pub bar-word : (xs : List S) (t : Tail) → bar (word xs t) ≡ word xs (other t)
-  unfolding word
-  bar-word xs t = fun-ext (at xs t)
-    where
-      at : (xs : List S) (t : Tail) (p : ℕ) → bar (word xs t) p ≡ word xs (other t) p
-      at [] none p = refl
-      at [] tops p = refl
-      at [] bots p = refl
-      at (x ∷ xs) t zero = refl
-      at (x ∷ xs) t (suc p) = at xs t p
+use Rattle.meaning.proofs.Words.{word-proper, bots-below, tops-above, tail-below, tail-above}
+use Rattle.meaning.proofs.Mono.{mono}
 
 module _ {A S : Type 0} (reads : A → S → Bool) (P : Prop A) (a : Accepted reads free P) where
   pub strong-neutral : (xs : List S) → Strongly reads P xs → Neutral reads P xs

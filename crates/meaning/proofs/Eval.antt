@@ -12,9 +12,9 @@ use Rattle.meaning.proofs.Cells.{isTop}
 use Rattle.meaning.specs.Meaning.{Plus, last, more, satisfies, Match}
 use Rattle.meaning.proofs.Order.{top-above, match-le, carry}
 use Rattle.telling.proofs.Telling.{side, is-map, is-test, is-false, is-and, is-or, is-eq, is-le, is-some, is-every}
-use Rattle.meaning.proofs.Tails.{AllTop}
+use Rattle.meaning.proofs.Words.{AllTop}
 use Rattle.meaning.proofs.Unroll.{plus-first}
-use Rattle.telling.specs.Tests.{Tells, some, every}
+use Rattle.telling.specs.Tells.{Tells, some, every}
 
 -- one or more stretches in a row, n steps at most
 unfoldable pub plusB : (ℕ → ℕ → Bool) → ℕ → ℕ → ℕ → Bool

@@ -6,10 +6,11 @@ use Rattle.meaning.specs.Syntax.{Prop, strong, weak, neg, either, both, 
 use Rattle.meaning.specs.Words.{top, word, none, tops, bots}
 use Rattle.meaning.specs.Levels.{levelOf}
 use Rattle.meaning.specs.Meaning.{satisfies, value, counts, ticks, Topped, Accepted, Neutral, Weakly, Strongly, Level, level3, level2, level1, level0}
-use Rattle.telling.specs.Tests.{Tells, some, every}
+use Rattle.telling.specs.Tells.{Tells, some, every}
 use Rattle.telling.proofs.Telling.{is-and}
 use Rattle.meaning.proofs.Eval.{topB, matchB, plusB, is-top}
-use Rattle.meaning.proofs.Answers.{ansB, is-ans, strongB, weakB, inB, secondB}
+use Rattle.meaning.proofs.Sequences.{strongB, weakB, inB}
+use Rattle.meaning.proofs.Answers.{ansB, is-ans, secondB}
 
 module _ {A S : Type 0} (reads : A → S → Bool) where
   -- (the line lets whoever unfolds `levelB` compute it)

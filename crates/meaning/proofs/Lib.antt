@@ -3,12 +3,14 @@ pub mod Theorems
 pub mod Examples
 pub mod Cells
 pub mod Order
+pub mod Words
 pub mod Unroll
 pub mod Tails
 pub mod Mono
 pub mod Closed
 pub mod Shift
 pub mod Eval
+pub mod Sequences
 pub mod Answers
 pub mod Leveling
 pub mod Rewriting

@@ -11,12 +11,9 @@ use Rattle.meaning.proofs.Cells.{isTop}
 use Rattle.meaning.specs.Meaning.{counts, ticks, Second, Strong, Sat, Topped, Accepted}
 use Rattle.meaning.proofs.Order.{Below, from-bot, to-top, same, below-flip, top-above, Keeps, from-real, stay, Proper, proper-bar, below-satisfies, match-mono}
 use Rattle.telling.proofs.Telling.{side}
-use Rattle.meaning.proofs.Tails.{cut-in, cut-out, cut-top, top-ticks, bot-ticks, topped-strong, ends}
+use Rattle.meaning.proofs.Words.{cut-in, cut-out, cut-top, _⊑_}
+use Rattle.meaning.proofs.Tails.{top-ticks, bot-ticks, topped-strong, ends}
 
-abbrev pub _⊑_ : {S : Type 0} → Word S → Word S → Type 0
-w ⊑ v = (p : ℕ) → Below (w p) (v p)
-
-infix 40 _⊑_
 module _ {S : Type 0} where
   -- what one cell says of a higher one
   in-or : (x : Cell S) → T (inside x) ⊎ T (not (inside x))

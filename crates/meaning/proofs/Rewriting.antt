@@ -14,10 +14,10 @@ use Rattle.meaning.proofs.Cells.{isTop}
 use Rattle.meaning.specs.Meaning.{Plus, last, more, value, satisfies, Match, counts, ticks, Second, Strong, Sat, Topped, Accepted, Level, level3, level2, level1, level0}
 use Rattle.meaning.specs.Rewriting.{tickS, rewS, now, seek, rewP}
 use Rattle.telling.proofs.Telling.{side, is-test, is-true, is-false, is-and, is-not, test}
+use Rattle.meaning.proofs.Words.{bar-word, word-out, word-inside, word-not-bot, botted, no-bot}
 use Rattle.meaning.proofs.Tails.{bot-inside}
-use Rattle.meaning.proofs.Closed.{bar-word}
-use Rattle.telling.specs.Tests.{Tells}
-use Rattle.meaning.proofs.Answers.{word-out, word-inside, word-not-bot, out-ticks, botted, decided, no-bot}
+use Rattle.meaning.proofs.Answers.{out-ticks, decided}
+use Rattle.telling.specs.Tells.{Tells}
 
 plus-map : {M N : ℕ → ℕ → Type 0} → ((a b : ℕ) → M a b → N a b) → {i j : ℕ} → Plus M i j → Plus N i j
 plus-map f (last {i = i} {j = j} a) = last (f i j a)
@@ -360,16 +360,18 @@ module _ {A S : Type 0} (reads : A → S → Bool) where
       λ k h z.
       stable (on c) P xs t k
       (λ n. h (now-iff c (bar w) k .1 z, λ s. n (sat-rew (on c) P xs t k .1 (subst (λ v. Sat reads free P′ v k) (bar-bar w) s)))) in (
-        ⊎-elim
-            (λ s.
-            let (j, u, x, y, q, before) = s in
-            inl (j, u, x, tt, (now-iff c w j .1 y, sat-rew (on c) Q xs t j .0 q), λ k a b _. there k (before k a b)))
-            (λ s. inr (λ k a b _. there k (s k a b))),
-        ⊎-elim
-            (λ s.
-            let (j, u, x, y, q, before) = s in
-            inl (j, u, x, now-iff c w j .0 (q .0), sat-rew (on c) Q xs t j .1 (q .1), λ k a b d. back k (before k a b tt) d))
-            (λ s. inr (λ k a b d. back k (s k a b tt) d)),
+        elim [
+          | inl s ↦
+              let (j, u, x, y, q, before) = s in
+              inl (j, u, x, tt, (now-iff c w j .1 y, sat-rew (on c) Q xs t j .0 q), λ k a b _. there k (before k a b))
+          | inr s ↦ inr (λ k a b _. there k (s k a b))
+        ],
+        elim [
+          | inl s ↦
+              let (j, u, x, y, q, before) = s in
+              inl (j, u, x, now-iff c w j .0 (q .0), sat-rew (on c) Q xs t j .1 (q .1), λ k a b d. back k (before k a b tt) d)
+          | inr s ↦ inr (λ k a b d. back k (s k a b tt) d)
+        ],
       )
   sat-rew κ (under c P) xs t i = sat-rew (on c) P xs t i
 

@@ -11,7 +11,7 @@ use Rattle.meaning.specs.Words.{Word, inside, isBot, flip, bar, cut, suf
 use Rattle.meaning.specs.Meaning.{Match, counts, ticks, Second, Strong, Sat}
 use Rattle.meaning.proofs.Order.{Below, same, carry}
 use Rattle.telling.proofs.Telling.{side}
-use Rattle.meaning.proofs.Tails.{cut-in, cut-out}
+use Rattle.meaning.proofs.Words.{cut-in, cut-out}
 
 -- w from i on is v from j on
 abbrev pub Agree : {S : Type 0} → Word S → Word S → ℕ → ℕ → Type 0

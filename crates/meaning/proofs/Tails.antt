@@ -1,21 +1,16 @@
 -- ⊤ for ever satisfies every accepted property, ⊥ for ever none. Assumes nothing.
-use mathlib.Core.Bool.{Bool, true, false, not, cond}
-use mathlib.Core.Path.{_≡_, refl, subst}
+use mathlib.Core.Bool.{Bool, not}
+use mathlib.Core.Path.{subst}
 use mathlib.Core.Logic.{inl, inr, ⊎-elim}
-use Prim.Native.Nat.{ℕ, suc, _+_, _-_, _≤_, _<_}
+use Prim.Native.Nat.{ℕ, suc, _+_, _-_, _<_}
 use native.Mathlib.Omega.{arith}
-use lib.Dec.{T, T-not, ltb, lt→ltb, ltb→lt}
+use lib.Dec.{T, T-not, ltb}
 use Rattle.meaning.specs.Syntax.{Bexp, Seq, Prop, strong, weak, neg, either, both, implies, next, until, under, Clock, free, on}
 use Rattle.meaning.specs.Words.{Cell, real, top, bot, end, Word, inside, isBot, flip, bar, cut, NoBot}
 use Rattle.meaning.proofs.Cells.{alive, isTop}
 use Rattle.meaning.specs.Meaning.{satisfies, Match, counts, ticks, Second, Strong, Sat, Topped, Accepted}
 use Rattle.meaning.proofs.Order.{top-above, carry, match-alive}
-
-abbrev pub AllTop : {S : Type 0} → Word S → ℕ → Type 0
-AllTop w i = (p : ℕ) → i ≤ p → T (isTop (w p))
-
-abbrev pub AllBot : {S : Type 0} → Word S → ℕ → Type 0
-AllBot w i = (p : ℕ) → i ≤ p → T (isBot (w p))
+use Rattle.meaning.proofs.Words.{AllTop, AllBot, cut-in, cut-top}
 
 module _ {S : Type 0} where
   flip-top : (x : Cell S) → T (isTop x) → T (isBot (flip x))
@@ -47,24 +42,6 @@ module _ {S : Type 0} where
   top-not-bot top t = tt
   top-not-bot bot t = t
   top-not-bot end t = tt
-
-  pub cut-in : (w : Word S) (n p : ℕ) → p < n → cut w n p ≡ w p
-  cut-in w n p l = go (ltb p n) (lt→ltb p n l)
-    where
-      go : (b : Bool) → T b → cond b (w p) top ≡ w p
-      go true t = refl
-      go false t = absurd t
-
-  pub cut-out : (w : Word S) (n p : ℕ) → n ≤ p → cut w n p ≡ top
-  cut-out w n p l = go (ltb p n) (ltb→lt p n)
-    where
-      go : (b : Bool) → (T b → p < n) → cond b (w p) top ≡ top
-      go true t = absurd (let h = t tt in omega arith)
-      go false t = refl
-
-  pub cut-top : (b : Bool) (x : Cell S) → T (isTop x) → T (isTop (cond b x top))
-  cut-top true x t = t
-  cut-top false x t = tt
 
 module _ {A S : Type 0} (reads : A → S → Bool) where
   pub bot-ticks : (c : Bexp A) (x : Cell S) → T (isBot x) → T (ticks reads c x) → ⊥

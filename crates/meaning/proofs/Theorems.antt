@@ -6,7 +6,7 @@ use mathlib.Core.Logic.{_⊎_, inl, inr, _↔_}
 use mathlib.Core.List.{List, [], _++_}
 use Prim.Native.Nat.{ℕ, zero, _≤_, _<_}
 use lib.Dec.{T}
-use Rattle.telling.specs.Tests.{Tells}
+use Rattle.telling.specs.Tells.{Tells}
 use Rattle.meaning.specs.Syntax.{Seq, Prop, Clock, free}
 use Rattle.meaning.specs.Words.{Word, Tail, tops, bots, top, bot, word, suffix}
 use Rattle.meaning.specs.Meaning.{Match, Sat, Accepted, Neutral, Weakly, Strongly, Level, level3, level2, level1, level0}

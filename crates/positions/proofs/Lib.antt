@@ -1,4 +1,3 @@
 -- Laws on plain numbers, which the proofs of this crate and of its callers cite.
 pub mod Laws
 pub mod Lowest
-pub mod Tests

@@ -4,7 +4,7 @@ ghost use mathlib.Core.Path.{_≡_};
 ghost use mathlib.Core.Bool.{false, not, _||_, _&&_};
 ghost use Prim.Native.Nat.{ℕ, suc, _+_, _-_, _≤_, _<_};
 ghost use lib.Dec.{eqb, leb, ltb};
-ghost use Rattle.telling.specs.Tests.{some};
+ghost use Rattle.telling.specs.Tells.{some};
 ghost use Rattle.positions.specs.Member.{has, Is, Lowest};
 
 // All places but 0, so that moved up by i it has the places after i.

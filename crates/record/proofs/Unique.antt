@@ -1,40 +1,25 @@
 -- The statement of reading a record leaves nothing open: two results that fit it are the same.
 -- Assumes nothing.
-use borrow.Author.Tests.{eqb-true, eqb-false}
-use mathlib.Core.Path.{_≡_, refl, _∙_, sym, ap}
-use mathlib.Core.Bool.{Bool, true, false}
+use mathlib.Core.Path.{_≡_, _∙_, sym}
 use mathlib.Core.List.{List}
 use Prim.Native.Nat.{ℕ}
-use lib.Dec.{eqb}
-use lib.ListN.{length}
-use Rattle.refusal.specs.declared.Verdict.{Verdict}
-use Rattle.refusal.proofs.Deciding.{only}
+use lib.ListN.{length, drop}
+use Rattle.refusal.specs.Heading.{headingRefusals}
+use Rattle.refusal.proofs.Headings.{heading-singles}
+use Rattle.refusal.proofs.Unique.{Singles, single-when, singles-append, by-verdict}
 use Rattle.record.specs.declared.Reading.{Reading}
 use Rattle.record.specs.Record.{refusals, Reads}
-use Rattle.record.proofs.Deciding.{cases, decides}
+
+pub record-singles : (s : List ℕ) (words : ℕ) → Singles (refusals s words)
+unfolding refusals
+record-singles s words =
+    singles-append (headingRefusals 0x57 s) (drop 3 (refusals s words)) (heading-singles 0x57 s)
+    (single-when 10 _, (single-when 5 _, (single-when 15 _, tt)))
 
 pub unique : (s d : List ℕ) (r q : Reading) (d′ e′ : List ℕ) → Reads s d r d′ → Reads s d q e′ → (r ≡ q) × (d′ ≡ e′)
-unique s d r q d′ e′ a b = go (eqb (r .verdict .number) 0) refl
+unique s d r q d′ e′ a b =
+    by-verdict (refusals s (length d)) (record-singles s (length d)) (r .verdict) (q .verdict) (a .answer) (b .answer)
+    (λ v y z. same v (a .accepted y) (b .accepted z)) (λ v y z. same v (a .refused y) (b .refused z))
   where
-    same : r .verdict ≡ q .verdict
-    same =
-        only (cases s (length d)) (refusals s (length d)) (decides s (length d)) (r .verdict) (a .answer)
-        ∙ sym (only (cases s (length d)) (refusals s (length d)) (decides s (length d)) (q .verdict) (b .answer))
-
-    numbers : r .verdict .number ≡ q .verdict .number
-    numbers = ap (λ (v : Verdict). v .number) same
-
-    with-count : r .count ≡ q .count → r ≡ q
-    with-count c = λ i. record { verdict = same i; count = c i }
-
-    go : (t : Bool) → eqb (r .verdict .number) 0 ≡ t → (r ≡ q) × (d′ ≡ e′)
-    go true t =
-        let z = eqb-true (r .verdict .number) 0 t in
-        let (c, w) = a .accepted z in
-        let (c′, w′) = b .accepted (sym numbers ∙ z) in
-        (with-count (c ∙ sym c′), w ∙ sym w′)
-    go false t =
-        let z = eqb-false (r .verdict .number) 0 t in
-        let (c, w) = a .refused z in
-        let (c′, w′) = b .refused (λ y. z (numbers ∙ y)) in
-        (with-count (c ∙ sym c′), w ∙ sym w′)
+    same : r .verdict ≡ q .verdict → {n : ℕ} {w : List ℕ} → (r .count ≡ n) × (d′ ≡ w) → (q .count ≡ n) × (e′ ≡ w) → (r ≡ q) × (d′ ≡ e′)
+    same v (c, w) (c′, w′) = (λ i. record { verdict = v i; count = (c ∙ sym c′) i }, w ∙ sym w′)

@@ -9,13 +9,15 @@ use native.Mathlib.Omega.{arith}
 use lib.Dec.{T}
 use lib.ListN.{length, getD, take}
 use lib.Seq.{getD-take}
-use Rattle.telling.specs.Tests.{Tells}
+use Rattle.telling.specs.Tells.{Tells}
 use Rattle.telling.proofs.Telling.{is-map, is-and, is-not, is-eq, is-lt}
 use Rattle.refusal.specs.declared.Verdict.{Verdict}
 use Rattle.refusal.specs.Computed.{Case, firstCase, headingCases, isMarked, isVersionOne}
 use Rattle.refusal.specs.First.{Answers}
 use Rattle.refusal.specs.Heading.{headingRefusals, mark, version}
-use Rattle.refusal.proofs.Deciding.{Decides, answers, only, decided-when, refuses, none, after, before}
+use Rattle.refusal.proofs.Cases.{refuses, none, after, before}
+use Rattle.refusal.proofs.Deciding.{Decides, answers, decided-when}
+use Rattle.refusal.proofs.Unique.{Singles, single-when, answers-unique}
 
 marked-tells : (letter : ℕ) (s : List ℕ) → 6 ≤ length s → Tells (isMarked letter s) (take 3 s ≡ mark letter)
 unfolding isMarked
@@ -61,6 +63,9 @@ pub heading-refuses : (letter : ℕ) (s : List ℕ) → T (refuses (headingCases
 unfolding headingCases
 heading-refuses letter s = tt
 
+pub heading-singles : (letter : ℕ) (s : List ℕ) → Singles (headingRefusals letter s)
+heading-singles letter s = (single-when 1 _, (single-when 2 _, (single-when 3 _, tt)))
+
 -- what the tests answer is the first that applies
 pub heading-answers : (letter : ℕ) (s : List ℕ) (v : Verdict) → v ≡ firstCase (headingCases letter s) → Answers (headingRefusals letter s) v
 heading-answers letter s v e = subst (Answers (headingRefusals letter s)) (sym e) (answers (headingCases letter s) (headingRefusals letter s) (decides-heading letter s))
@@ -68,7 +73,7 @@ heading-answers letter s v e = subst (Answers (headingRefusals letter s)) (sym e
 -- and what follows them, from that answer
 module _ (letter : ℕ) (s : List ℕ) (v : Verdict) (a : Answers (headingRefusals letter s) v) where
   pub heading-only : v ≡ firstCase (headingCases letter s)
-  heading-only = only (headingCases letter s) (headingRefusals letter s) (decides-heading letter s) v a
+  heading-only = answers-unique (headingRefusals letter s) (heading-singles letter s) v (firstCase (headingCases letter s)) a (heading-answers letter s _ refl)
 
   heading-number : v .number ≡ firstCase (headingCases letter s) .number
   heading-number = ap (λ (u : Verdict). u .number) heading-only

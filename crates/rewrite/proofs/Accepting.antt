@@ -14,12 +14,13 @@ use Rattle.meaning.specs.Syntax.{Seq, Prop, free}
 use Rattle.meaning.specs.Signal.{signal}
 use Rattle.meaning.specs.Rewriting.{rewS, rewP}
 use Rattle.meaning.proofs.Rewriting.{accepted-rew}
-use Rattle.table.specs.Operators.{boolean, sequence}
-use Rattle.table.specs.Nodes.{rowAt, sortAt, nodeAt, usesOf, root}
-use Rattle.table.specs.Trees.{SequenceAt, PropertyAt, Ref, c-free}
+use Rattle.nodes.specs.Operators.{boolean, sequence}
+use Rattle.nodes.specs.Nodes.{rowAt, sortAt, nodeAt, usesOf, root}
+use Rattle.nodes.specs.Clocks.{Ref}
+use Rattle.table.specs.Trees.{SequenceAt, PropertyAt, c-free}
 use Rattle.table.specs.Check.{Checks}
 use Rattle.table.specs.Computed.{checked}
-use Rattle.table.proofs.Built.{Built}
+use Rattle.nodes.proofs.Built.{Built}
 use Rattle.table.proofs.Standing.{sequence-in, property-in}
 use Rattle.table.proofs.Checking.{Sound, checks, nine-or-none, sorts}
 use Rattle.table.proofs.Topping.{accepted-at}

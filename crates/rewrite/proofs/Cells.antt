@@ -11,10 +11,10 @@ use lib.Dec.{eqb}
 use lib.ListN.{length, getD, length-append, List·getD-append}
 use lib.Seq.{getD-append-add}
 use Rattle.refusal.specs.Heading.{count}
-use Rattle.table.specs.declared.nodes.Raw.{Raw}
-use Rattle.table.specs.Operators.{operators, lookup, rowOf, bytesOf, booleanBytes, sequenceBytes, propertyBytes}
-use Rattle.table.specs.Nodes.{rawAt, rowAt, sortAt, WellFormed}
-use Rattle.table.specs.Trees.{Ref}
+use Rattle.nodes.specs.declared.Raw.{Raw}
+use Rattle.nodes.specs.Operators.{operators, lookup, rowOf, bytesOf, booleanBytes, sequenceBytes, propertyBytes}
+use Rattle.nodes.specs.Nodes.{rawAt, rowAt, sortAt, WellFormed}
+use Rattle.nodes.specs.Clocks.{Ref}
 use Rattle.rewrite.specs.Numbers.{sum, isBoolean, isOther, isClock, lengthOf, newCount, taken, startOf, numberOf}
 use Rattle.rewrite.specs.Blocks.{movedNode, blockUnder}
 use Rattle.rewrite.specs.Tables.{heading, fourBytes, encoded, blockOf, laid, newNodes, newTable}

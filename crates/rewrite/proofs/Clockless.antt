@@ -6,10 +6,10 @@ use mathlib.Core.Bool.{false}
 use mathlib.Core.List.{List}
 use Prim.Native.Nat.{ℕ, zero, suc, _<_, min}
 use Rattle.refusal.specs.Heading.{count}
-use Rattle.table.specs.Nodes.{rowAt}
-use Rattle.table.specs.Trees.{Ref, freeR, ClockOf, c-root, c-part}
-use Rattle.table.proofs.Built.{Built}
-use Rattle.table.proofs.Clocking.{clock-inside}
+use Rattle.nodes.specs.Nodes.{rowAt}
+use Rattle.nodes.specs.Clocks.{Ref, freeR, ClockOf, c-root, c-part}
+use Rattle.nodes.proofs.Built.{Built}
+use Rattle.nodes.proofs.Clocking.{clock-inside}
 use Rattle.rewrite.specs.Clocks.{ClockIs, from-above, none-above, Clocks}
 use Rattle.rewrite.specs.Numbers.{sum, isClock, lengthUnder, lengthOf, newCount}
 use Rattle.rewrite.proofs.Sums.{sum-same}

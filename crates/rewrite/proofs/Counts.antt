@@ -12,11 +12,11 @@ use lib.Dec.{eqb}
 use lib.ListN.{length, getD, set, replicate, length-set}
 use lib.Seq.{getD-set-same, getD-set-other}
 use Rattle.refusal.specs.Heading.{count}
-use Rattle.table.specs.declared.operators.Row.{Row}
-use Rattle.table.specs.declared.nodes.Raw.{Raw}
-use Rattle.table.specs.Operators.{boolean, rowOf}
-use Rattle.table.specs.Nodes.{rawAt, rowAt, sortAt}
-use Rattle.table.specs.Computed.{namedBy}
+use Rattle.nodes.specs.declared.operators.Row.{Row}
+use Rattle.nodes.specs.declared.Raw.{Raw}
+use Rattle.nodes.specs.Operators.{boolean, rowOf}
+use Rattle.nodes.specs.Nodes.{rawAt, rowAt, sortAt}
+use Rattle.nodes.specs.Computed.{namedBy}
 use Rattle.rewrite.specs.Numbers.{sum, isBoolean, isOther, isClock, lengthUnder, lengthOf, newCount, taken, startOf, numberOf}
 use Rattle.rewrite.specs.Computed.{refOf, clockBy, Timed, Numbered}
 use Rattle.rewrite.proofs.Sums.{sum-le}

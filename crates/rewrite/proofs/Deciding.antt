@@ -7,18 +7,20 @@ use mathlib.Core.List.{List, [], _∷_, _++_}
 use Prim.Native.Nat.{ℕ, _+_, _*_, _<_, _≤_}
 use lib.Dec.{T, ltb, eqb}
 use lib.ListN.{length}
-use Rattle.telling.specs.Tests.{Tells}
+use Rattle.telling.specs.Tells.{Tells}
 use Rattle.telling.proofs.Telling.{is-map, is-lt}
 use Rattle.refusal.specs.declared.Verdict.{Verdict}
 use Rattle.refusal.specs.First.{Answers, NotGiven}
 use Rattle.refusal.specs.Computed.{Case, at0, firstCase, accepted, headingCases}
-use Rattle.refusal.proofs.Deciding.{Decides, none-given, not-given-append, answers, decided-when, decides-append, refuses, before, after}
-use Rattle.table.specs.Trees.{Ref}
+use Rattle.refusal.proofs.Cases.{refuses, before, after}
+use Rattle.refusal.proofs.Deciding.{Decides, answers, decided-when, decides-append}
+use Rattle.refusal.proofs.Given.{none-given, not-given-append}
+use Rattle.nodes.specs.Clocks.{Ref}
 use Rattle.table.specs.Check as Check
 use Rattle.table.specs.Check.{Checks}
 use Rattle.table.specs.Computed as Table
 use Rattle.table.specs.Computed.{nodeCases, laterCases, checked}
-use Rattle.table.proofs.Built.{Built}
+use Rattle.nodes.proofs.Built.{Built}
 use Rattle.table.proofs.Checking as Checking
 use Rattle.table.proofs.Checking.{checks, checks-only, checks-none, checks-given, sound}
 use Rattle.rewrite.specs.declared.Rewriting.{Rewriting}

@@ -7,15 +7,16 @@ use mathlib.Core.List.{List, [], _∷_}
 use Prim.Native.Nat.{ℕ, zero, suc}
 use lib.Dec.{eqb}
 use Rattle.refusal.specs.Computed.{accepted, firstOf, firstCase, headingCases, isMarked, isVersionOne}
-use Rattle.table.specs.Operators.{operators, lookup, rowOf, nodeOf, bytesOf, booleanBytes, sequenceBytes, propertyBytes}
-use Rattle.table.specs.Nodes.{sortAt, hitsOf, usesOf}
-use Rattle.table.specs.Trees.{Ref, freeR, onR, at-x, at-y, c-root, c-part}
-use Rattle.table.specs.Flags.{sequenceTops, nodeTops, topsBelow, hollowProperty, hollowNode, hollow}
+use Rattle.nodes.specs.Operators.{operators, lookup, rowOf, nodeOf, bytesOf, booleanBytes, sequenceBytes, propertyBytes}
+use Rattle.nodes.specs.Nodes.{sortAt, hitsOf, usesOf}
+use Rattle.nodes.specs.Clocks.{Ref, freeR, onR, at-x, at-y, c-root, c-part}
+use Rattle.faults.specs.Flags.{sequenceTops, nodeTops, topsBelow, hollowProperty, hollowNode, hollow}
 use Rattle.table.specs.Check.{Checks}
-use Rattle.table.specs.Computed.{operandFits, nodeFits, astray, nodeCases, laterCases, checked}
-use Rattle.table.proofs.Built.{Built}
+use Rattle.faults.specs.Computed.{operandFits, nodeFits, astray}
+use Rattle.table.specs.Computed.{nodeCases, laterCases, checked}
+use Rattle.nodes.proofs.Built.{Built}
 use Rattle.table.proofs.Checking.{checks, sound}
-use Rattle.table.proofs.Clocking.{clock-inside}
+use Rattle.nodes.proofs.Clocking.{clock-inside}
 use Rattle.rewrite.specs.Clocks.{from-above, none-above, Clocks}
 use Rattle.rewrite.specs.Numbers.{sum, isBoolean, isClock, lengthUnder, startOf, numberIn, numberOf}
 use Rattle.rewrite.specs.Blocks.{underBlock, moved, movedNode, movedBlock, blockUnder}

@@ -7,11 +7,11 @@ use mathlib.Core.List.{List, [], _∷_, map}
 use Prim.Native.Nat.{ℕ, zero, suc, _+_, _<_}
 use lib.Dec.{T, eqb}
 use lib.ListN.{length, getD}
-use Rattle.telling.specs.Tests.{Tells}
+use Rattle.telling.specs.Tells.{Tells}
 use Rattle.telling.proofs.Telling.{is-and, is-not, is-eq}
-use Rattle.table.specs.declared.nodes.Raw.{Raw}
-use Rattle.table.specs.Operators.{none, boolean, property, operators, lookup, rowOf, bytes, bytesOf, booleanBytes, sequenceBytes, propertyBytes}
-use Rattle.table.specs.Nodes.{sortAt, Operand}
+use Rattle.nodes.specs.declared.Raw.{Raw}
+use Rattle.nodes.specs.Operators.{none, boolean, property, operators, lookup, rowOf, bytes, bytesOf, booleanBytes, sequenceBytes, propertyBytes}
+use Rattle.nodes.specs.Nodes.{sortAt, Operand}
 use Rattle.rewrite.specs.Blocks.{letterBlock, nextBlock, untilBlock}
 use Rattle.rewrite.specs.Computed.{blank}
 

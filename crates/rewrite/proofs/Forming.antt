@@ -11,12 +11,12 @@ use lib.Dec.{eqb}
 use lib.ListN.{length, getD}
 use Rattle.telling.proofs.Telling.{side}
 use Rattle.refusal.specs.Heading.{count}
-use Rattle.table.specs.declared.nodes.Raw.{Raw}
-use Rattle.table.specs.Operators.{none, boolean, sequence, property, operators, lookup, rowOf}
-use Rattle.table.specs.Nodes.{rawAt, rowAt, sortAt, Operand, WellFormed}
-use Rattle.table.specs.Trees.{Ref, onR}
-use Rattle.table.proofs.Built.{Built}
-use Rattle.table.proofs.Placing.{fine-row}
+use Rattle.nodes.specs.declared.Raw.{Raw}
+use Rattle.nodes.specs.Operators.{none, boolean, sequence, property, operators, lookup, rowOf}
+use Rattle.nodes.specs.Nodes.{rawAt, rowAt, sortAt, Operand, WellFormed}
+use Rattle.nodes.specs.Clocks.{Ref, onR}
+use Rattle.nodes.proofs.Built.{Built}
+use Rattle.nodes.proofs.Placing.{fine-row}
 use Rattle.rewrite.specs.Clocks.{Clocks}
 use Rattle.rewrite.specs.Numbers.{isBoolean, isClock, newCount, startOf, numberOf}
 use Rattle.rewrite.specs.Blocks.{moved, movedNode}

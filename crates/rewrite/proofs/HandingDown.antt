@@ -13,16 +13,16 @@ use lib.ListN.{length, getD, set, replicate, length-set, getD-replicate}
 use lib.Seq.{getD-set-same, getD-set-other}
 use Rattle.telling.proofs.Telling.{side}
 use Rattle.refusal.specs.Heading.{count}
-use Rattle.table.specs.declared.operators.Row.{Row}
-use Rattle.table.specs.declared.nodes.Raw.{Raw}
-use Rattle.table.specs.Operators.{sequence, rowOf}
-use Rattle.table.specs.Nodes.{rawAt, rowAt, nodeAt, root, WellFormed}
-use Rattle.table.specs.Trees.{Ref, freeR, onR, Part, at-x, at-y, handed, ClockOf, c-root, c-part}
-use Rattle.table.specs.Computed.{namedBy}
-use Rattle.table.proofs.Built.{Built}
+use Rattle.nodes.specs.declared.operators.Row.{Row}
+use Rattle.nodes.specs.declared.Raw.{Raw}
+use Rattle.nodes.specs.Operators.{sequence, rowOf}
+use Rattle.nodes.specs.Nodes.{rawAt, rowAt, nodeAt, root, WellFormed}
+use Rattle.nodes.specs.Clocks.{Ref, freeR, onR, Part, at-x, at-y, handed, ClockOf, c-root, c-part}
+use Rattle.nodes.specs.Computed.{namedBy}
+use Rattle.nodes.proofs.Built.{Built}
 use Rattle.table.proofs.Checking.{sound}
-use Rattle.table.proofs.Placing.{part-below, part-sort, whole-sort, one-above}
-use Rattle.table.proofs.Clocking.{clock-exists, clock-inside}
+use Rattle.nodes.proofs.Placing.{part-below, part-sort, whole-sort, one-above}
+use Rattle.nodes.proofs.Clocking.{clock-exists, clock-inside}
 use Rattle.rewrite.specs.Clocks.{ClockIs, from-above, none-above, Clocks}
 use Rattle.rewrite.specs.Numbers.{isClock}
 use Rattle.rewrite.specs.Computed.{Passed, refOf, clockBy, partOf}

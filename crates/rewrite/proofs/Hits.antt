@@ -7,10 +7,10 @@ use mathlib.Core.List.{List, [], _∷_, _++_, map}
 use Prim.Native.Nat.{ℕ, _+_, _-_, _<_}
 use lib.Dec.{eqb}
 use lib.ListN.{length, getD}
-use Rattle.table.specs.declared.nodes.Raw.{Raw}
-use Rattle.table.specs.Operators.{none, boolean, operators, lookup, rowOf, bytesOf, booleanBytes, sequenceBytes, propertyBytes}
-use Rattle.table.specs.Nodes.{hitsOf}
-use Rattle.table.specs.Trees.{Ref, onR}
+use Rattle.nodes.specs.declared.Raw.{Raw}
+use Rattle.nodes.specs.Operators.{none, boolean, operators, lookup, rowOf, bytesOf, booleanBytes, sequenceBytes, propertyBytes}
+use Rattle.nodes.specs.Nodes.{hitsOf}
+use Rattle.nodes.specs.Clocks.{Ref, onR}
 use Rattle.rewrite.specs.Numbers.{sum}
 use Rattle.rewrite.specs.Blocks.{letterBlock, nextBlock, untilBlock, moved, movedNode, blockUnder}
 use Rattle.rewrite.specs.Computed.{blank}

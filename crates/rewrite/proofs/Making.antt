@@ -9,13 +9,13 @@ use Prim.Native.Nat.{ℕ, zero, suc, _+_, _<_, _≤_}
 use lib.Dec.{eqb}
 use lib.ListN.{length, getD, List·getD-map}
 use Rattle.refusal.specs.Heading.{count}
-use Rattle.table.specs.declared.operators.Row.{Row}
-use Rattle.table.specs.declared.nodes.Raw.{Raw}
-use Rattle.table.specs.declared.nodes.Node.{Node}
-use Rattle.table.specs.Operators.{none, rowOf, bytes, bytesOf}
-use Rattle.table.specs.Nodes.{rawAt, rowAt, Operand}
-use Rattle.table.specs.Trees.{Ref, freeR, onR}
-use Rattle.table.specs.Computed.{namedBy}
+use Rattle.nodes.specs.declared.operators.Row.{Row}
+use Rattle.nodes.specs.declared.Raw.{Raw}
+use Rattle.nodes.specs.declared.Node.{Node}
+use Rattle.nodes.specs.Operators.{none, rowOf, bytes, bytesOf}
+use Rattle.nodes.specs.Nodes.{rawAt, rowAt, Operand}
+use Rattle.nodes.specs.Clocks.{Ref, freeR, onR}
+use Rattle.nodes.specs.Computed.{namedBy}
 use Rattle.rewrite.specs.Numbers.{isBoolean, isOther, lengthUnder, lengthOf, newCount, taken, startOf, numberOf}
 use Rattle.rewrite.specs.Blocks.{letterBlock, nextBlock, untilBlock, underBlock, moved, movedNode, movedBlock, blockUnder}
 use Rattle.rewrite.specs.Tables.{blockOf}

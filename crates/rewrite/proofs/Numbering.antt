@@ -11,12 +11,12 @@ use lib.Dec.{leb}
 use lib.ListN.{length, length-append}
 use Rattle.telling.proofs.Telling.{is-or, is-test, is-le, failed}
 use Rattle.refusal.specs.Heading.{count}
-use Rattle.table.specs.declared.operators.Row.{Row}
-use Rattle.table.specs.declared.nodes.Raw.{Raw}
-use Rattle.table.specs.Operators.{none, Entry, operators, lookup, rowOf}
-use Rattle.table.specs.Nodes.{rawAt, rowAt, sortAt, WellFormed}
-use Rattle.table.specs.Trees.{Ref, freeR, onR}
-use Rattle.table.proofs.Lookup.{row-passes, line-of}
+use Rattle.nodes.specs.declared.operators.Row.{Row}
+use Rattle.nodes.specs.declared.Raw.{Raw}
+use Rattle.nodes.specs.Operators.{none, Entry, operators, lookup, rowOf}
+use Rattle.nodes.specs.Nodes.{rawAt, rowAt, sortAt, WellFormed}
+use Rattle.nodes.specs.Clocks.{Ref, freeR, onR}
+use Rattle.nodes.proofs.Lookup.{row-passes, line-of}
 use Rattle.rewrite.specs.Numbers.{sum, isBoolean, isOther, isClock, lengthUnder, lengthOf, newCount, taken, startOf, numberIn, numberOf}
 use Rattle.rewrite.specs.Blocks.{blockUnder}
 use Rattle.rewrite.specs.Tables.{blockOf, laid}

@@ -10,9 +10,9 @@ use Prim.Native.Nat.{ℕ, zero, suc, _+_, _-_, _<_, _≤_}
 use lib.ListN.{length}
 use Rattle.telling.proofs.Telling.{side}
 use Rattle.refusal.specs.Heading.{count}
-use Rattle.table.specs.Operators.{boolean, sequence}
-use Rattle.table.specs.Nodes.{rawAt, rowAt, sortAt, WellFormed}
-use Rattle.table.specs.Trees.{Ref}
+use Rattle.nodes.specs.Operators.{boolean, sequence}
+use Rattle.nodes.specs.Nodes.{rawAt, rowAt, sortAt, WellFormed}
+use Rattle.nodes.specs.Clocks.{Ref}
 use Rattle.rewrite.specs.Numbers.{sum, isBoolean, isOther, isClock, lengthOf, newCount, taken, startOf, numberOf}
 use Rattle.rewrite.specs.Tables.{blockOf}
 use Rattle.rewrite.proofs.Sums.{sum-le, sum-in}

@@ -9,10 +9,10 @@ use Prim.Native.Nat.{ℕ, zero, suc, _+_, _-_, _<_, _≤_}
 use lib.Dec.{eqb}
 use lib.ListN.{getD}
 use Rattle.refusal.specs.Heading.{count}
-use Rattle.table.specs.Operators.{boolean, sequence}
-use Rattle.table.specs.Nodes.{rawAt, rowAt, sortAt, root, placesOf, usesOf}
-use Rattle.table.specs.Trees.{Ref}
-use Rattle.table.proofs.Built.{Built}
+use Rattle.nodes.specs.Operators.{boolean, sequence}
+use Rattle.nodes.specs.Nodes.{rawAt, rowAt, sortAt, root, placesOf, usesOf}
+use Rattle.nodes.specs.Clocks.{Ref}
+use Rattle.nodes.proofs.Built.{Built}
 use Rattle.rewrite.specs.Clocks.{Clocks}
 use Rattle.rewrite.specs.Numbers.{sum, isBoolean, isOther, isClock, lengthOf, newCount, startOf, numberOf}
 use Rattle.rewrite.specs.Tables.{blockOf, laid, newNodes, newTable}

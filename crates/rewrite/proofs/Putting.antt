@@ -7,7 +7,7 @@ use mathlib.Core.List.{List, [], _∷_, _++_, append-assoc, append-nil}
 use Prim.Native.Nat.{ℕ, suc, _+_, _*_, _<_, _≤_}
 use lib.ListN.{length, getD, take, drop, set, length-append, take-append-drop}
 use lib.Seq.{length-take-le, take-at, drop-at, drop-drop, take-suc, sets-eq}
-use Rattle.table.specs.declared.nodes.Raw.{Raw}
+use Rattle.nodes.specs.declared.Raw.{Raw}
 use Rattle.rewrite.specs.Tables.{heading, fourBytes, encoded}
 use Rattle.rewrite.specs.Computed.{blank, put}
 use Rattle.rewrite.proofs.Cells.{length-encoded}

@@ -9,13 +9,13 @@ use Prim.Native.Nat.{ℕ, _+_, _-_, _<_}
 use lib.Dec.{eqb}
 use lib.ListN.{length, getD, length-map, List·getD-map}
 use Rattle.refusal.specs.Heading.{count}
-use Rattle.table.specs.declared.nodes.Raw.{Raw}
-use Rattle.table.specs.declared.nodes.Node.{Node}
-use Rattle.table.specs.Operators.{rowOf, nodeOf, bytesOf}
-use Rattle.table.specs.Nodes.{rawAt, nodeAt, WellFormed}
-use Rattle.table.specs.Trees.{Ref, freeR, onR}
-use Rattle.table.proofs.Coded.{decoded}
-use Rattle.table.proofs.Forming.{coded-as}
+use Rattle.nodes.specs.declared.Raw.{Raw}
+use Rattle.nodes.specs.declared.Node.{Node}
+use Rattle.nodes.specs.Operators.{rowOf, nodeOf, bytesOf}
+use Rattle.nodes.specs.Nodes.{rawAt, nodeAt, WellFormed}
+use Rattle.nodes.specs.Clocks.{Ref, freeR, onR}
+use Rattle.nodes.proofs.Coded.{decoded}
+use Rattle.nodes.proofs.Coded.{coded-as}
 use Rattle.rewrite.specs.Numbers.{isClock, startOf, numberOf}
 use Rattle.rewrite.specs.Blocks.{movedNode, blockUnder}
 use Rattle.rewrite.specs.Tables.{blockOf, newTable}

@@ -7,9 +7,9 @@ use mathlib.Core.List.{List}
 use Prim.Native.Nat.{ℕ, zero, suc, _+_, _<_, _≤_}
 use lib.Dec.{eqb}
 use Rattle.refusal.specs.Heading.{count}
-use Rattle.table.specs.Operators.{none, sequence}
-use Rattle.table.specs.Nodes.{rawAt, rowAt, sortAt, root, WellFormed, hitsOf, placesOf, usesOf}
-use Rattle.table.proofs.Built.{Built}
+use Rattle.nodes.specs.Operators.{none, sequence}
+use Rattle.nodes.specs.Nodes.{rawAt, rowAt, sortAt, root, WellFormed, hitsOf, placesOf, usesOf}
+use Rattle.nodes.proofs.Built.{Built}
 use Rattle.rewrite.specs.Numbers.{sum, isClock}
 use Rattle.rewrite.proofs.Sums.{sum-zero, sum-same, sum-plus, sum-split, sum-swap, sum-one}
 use Rattle.rewrite.proofs.Timing.{clock-row}

@@ -6,7 +6,7 @@ use mathlib.Core.List.{List, _++_}
 use Prim.Native.Nat.{ℕ, _+_, _*_, _≤_}
 use lib.ListN.{length, take, drop}
 use lib.Seq.{take-at}
-use Rattle.telling.specs.Tests.{Tells}
+use Rattle.telling.specs.Tells.{Tells}
 use Rattle.refusal.specs.declared.Verdict.{Verdict}
 use Rattle.refusal.specs.Heading.{count}
 use Rattle.refusal.specs.Computed.{accepted}
@@ -16,8 +16,9 @@ use Rattle.meaning.specs.Meaning.{Match, Sat, Level}
 use Rattle.meaning.specs.Signal.{signal}
 use Rattle.meaning.specs.Rewriting.{rewS, rewP}
 use Rattle.meaning.proofs.Rewriting.{match-rew, sat-rew, level-rew}
-use Rattle.table.specs.Nodes.{rawAt, sortAt, WellFormed}
-use Rattle.table.specs.Trees.{Ref, RootS, RootP}
+use Rattle.nodes.specs.Nodes.{rawAt, sortAt, WellFormed}
+use Rattle.nodes.specs.Clocks.{Ref}
+use Rattle.table.specs.Trees.{RootS, RootP}
 use Rattle.table.specs.Check.{Checks}
 use Rattle.table.proofs.Reading.{uniqueS, uniqueP}
 use Rattle.table.proofs.Checking.{Sound, sound}

@@ -11,7 +11,7 @@ use Prim.Native.Nat.{ℕ, zero, suc, _+_, _<_, _≤_}
 use lib.Dec.{eqb, leb, ltb}
 use Rattle.telling.proofs.Telling.{side}
 use Rattle.refusal.specs.Heading.{count}
-use Rattle.table.specs.Trees.{Ref}
+use Rattle.nodes.specs.Clocks.{Ref}
 use Rattle.rewrite.specs.Numbers.{sum, isBoolean, isOther, lengthOf, newCount, taken, startOf}
 use Rattle.rewrite.proofs.Sums.{sum-split}
 use Rattle.rewrite.proofs.Numbering.{count-split}

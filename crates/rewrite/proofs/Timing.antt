@@ -7,20 +7,20 @@ use mathlib.Core.Bool.{Bool, true, false, not, cond, _&&_, _||_, Bool·beq}
 use mathlib.Core.List.{List, map}
 use Prim.Native.Nat.{ℕ, _<_, _≤_}
 use lib.Dec.{T, eqb, leb}
-use Rattle.telling.specs.Tests.{Tells}
+use Rattle.telling.specs.Tells.{Tells}
 use Rattle.telling.proofs.Telling.{is-or, is-and, is-not, is-eq, is-le, side}
 use Rattle.refusal.specs.Heading.{count}
-use Rattle.table.specs.declared.operators.Row.{Row}
-use Rattle.table.specs.declared.nodes.Node.{Node}
-use Rattle.table.specs.declared.nodes.Node.the-variants.{Boolean}
-use Rattle.table.specs.declared.nodes.BooleanOp.the-variants.{Constant}
-use Rattle.table.specs.Operators.{none, boolean, sequence, Entry, operators, unknown, rowOf, nodeOf}
-use Rattle.table.specs.Nodes.{rawAt, rowAt, sortAt, nodeAt, root, WellFormed}
-use Rattle.table.specs.Trees.{Ref, freeR, onR, Part, handed, ClockOf, c-root, c-part}
-use Rattle.table.proofs.Built.{Built}
-use Rattle.table.proofs.Lookup.{of-lookup, line-of, same-line}
-use Rattle.table.proofs.Placing.{part-sort, whole-sort}
-use Rattle.table.proofs.Clocking.{clock-exists, clock-unique, clock-inside}
+use Rattle.nodes.specs.declared.operators.Row.{Row}
+use Rattle.nodes.specs.declared.Node.{Node}
+use Rattle.nodes.specs.declared.Node.the-variants.{Boolean}
+use Rattle.nodes.specs.declared.BooleanOp.the-variants.{Constant}
+use Rattle.nodes.specs.Operators.{none, boolean, sequence, Entry, operators, unknown, rowOf, nodeOf}
+use Rattle.nodes.specs.Nodes.{rawAt, rowAt, sortAt, nodeAt, root, WellFormed}
+use Rattle.nodes.specs.Clocks.{Ref, freeR, onR, Part, handed, ClockOf, c-root, c-part}
+use Rattle.nodes.proofs.Built.{Built}
+use Rattle.nodes.proofs.Lookup.{of-lookup, line-of, same-line}
+use Rattle.nodes.proofs.Placing.{part-sort, whole-sort}
+use Rattle.nodes.proofs.Clocking.{clock-exists, clock-unique, clock-inside}
 use Rattle.rewrite.specs.Clocks.{ClockIs, from-above, none-above, Clocks}
 use Rattle.rewrite.specs.Numbers.{isClock}
 

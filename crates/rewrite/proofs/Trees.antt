@@ -8,14 +8,15 @@ use lib.Dec.{eqb}
 use Rattle.refusal.specs.Heading.{count}
 use Rattle.meaning.specs.Syntax.{Bexp, Seq, Prop, Clock}
 use Rattle.meaning.specs.Rewriting.{rewS, rewP}
-use Rattle.table.specs.declared.nodes.Raw.{Raw}
-use Rattle.table.specs.declared.nodes.Node.{Node}
-use Rattle.table.specs.Operators.{operators, lookup, rowOf, nodeOf, bytesOf, booleanBytes, sequenceBytes, propertyBytes}
-use Rattle.table.specs.Nodes.{rawAt, nodeAt}
-use Rattle.table.specs.Trees.{BooleanAt, b-const, b-sig, b-not, b-and, b-or, SequenceAt, s-one, s-cat, s-fuse, s-alt, s-empty, s-plus, s-clock, PropertyAt, p-strong, p-weak, p-neg, p-either, p-both, p-imp, p-next, p-until, p-clock, Ref, Part, handed, ClockAt, c-free, c-on}
-use Rattle.table.proofs.Built.{Built}
-use Rattle.table.proofs.Forming.{coded-as}
-use Rattle.table.proofs.Shapes.{Formed, Suits, down}
+use Rattle.nodes.specs.declared.Raw.{Raw}
+use Rattle.nodes.specs.declared.Node.{Node}
+use Rattle.nodes.specs.Operators.{operators, lookup, rowOf, nodeOf, bytesOf, booleanBytes, sequenceBytes, propertyBytes}
+use Rattle.nodes.specs.Nodes.{rawAt, nodeAt}
+use Rattle.nodes.specs.Clocks.{Ref, Part, handed}
+use Rattle.table.specs.Trees.{BooleanAt, b-const, b-sig, b-not, b-and, b-or, SequenceAt, s-one, s-cat, s-fuse, s-alt, s-empty, s-plus, s-clock, PropertyAt, p-strong, p-weak, p-neg, p-either, p-both, p-imp, p-next, p-until, p-clock, ClockAt, c-free, c-on}
+use Rattle.nodes.proofs.Built.{Built}
+use Rattle.nodes.proofs.Coded.{coded-as}
+use Rattle.nodes.proofs.Shapes.{Formed, Suits, down}
 use Rattle.rewrite.specs.Clocks.{Clocks}
 use Rattle.rewrite.specs.Numbers.{isClock, startOf, numberOf}
 use Rattle.rewrite.specs.Blocks.{letterBlock, nextBlock, untilBlock, underBlock, moved, movedNode, movedBlock, blockUnder}

@@ -7,9 +7,9 @@ use mathlib.Core.Bool.{Bool, true, false, cond, _||_, true≢false}
 use mathlib.Core.List.{[], _∷_, map}
 use Prim.Native.Nat.{ℕ}
 use lib.Dec.{eqb}
-use Rattle.table.specs.declared.nodes.Raw.{Raw}
-use Rattle.table.specs.Operators.{operators, lookup, rowOf, bytes, bytesOf}
-use Rattle.table.specs.Trees.{Ref, freeR, onR}
+use Rattle.nodes.specs.declared.Raw.{Raw}
+use Rattle.nodes.specs.Operators.{operators, lookup, rowOf, bytes, bytesOf}
+use Rattle.nodes.specs.Clocks.{Ref, freeR, onR}
 use Rattle.rewrite.specs.Blocks.{letterBlock, nextBlock, untilBlock, underBlock, moved, movedNode, movedBlock, blockUnder}
 
 -- a letter, nexttime or until

@@ -3,14 +3,14 @@ use mathlib.Core.Bool.{cond}
 use mathlib.Core.List.{List, [], _∷_, map}
 use Prim.Native.Nat.{ℕ, zero, suc, _+_}
 use lib.Dec.{eqb}
-use Rattle.table.specs.declared.nodes.Raw.{Raw}
-use Rattle.table.specs.declared.nodes.Node.{Node}
-use Rattle.table.specs.declared.nodes.Node.the-variants.{Boolean, Sequence, Property}
-use Rattle.table.specs.declared.nodes.BooleanOp.the-variants.{Not, And}
-use Rattle.table.specs.declared.nodes.SequenceOp.the-variants.{Letter, Then, Either, Empty, Repeat}
-use Rattle.table.specs.declared.nodes.PropertyOp.the-variants.{Strong, Negated, BothOf, Next, Until}
-use Rattle.table.specs.Operators.{none, rowOf, bytes, bytesOf}
-use Rattle.table.specs.Trees.{Ref, freeR, onR}
+use Rattle.nodes.specs.declared.Raw.{Raw}
+use Rattle.nodes.specs.declared.Node.{Node}
+use Rattle.nodes.specs.declared.Node.the-variants.{Boolean, Sequence, Property}
+use Rattle.nodes.specs.declared.BooleanOp.the-variants.{Not, And}
+use Rattle.nodes.specs.declared.SequenceOp.the-variants.{Letter, Then, Either, Empty, Repeat}
+use Rattle.nodes.specs.declared.PropertyOp.the-variants.{Strong, Negated, BothOf, Next, Until}
+use Rattle.nodes.specs.Operators.{none, rowOf, bytes, bytesOf}
+use Rattle.nodes.specs.Clocks.{Ref, freeR, onR}
 
 -- 1st, 2nd, 3rd, .. node of the block whose 1st is number `at`
 abbrev pub nth : ℕ → ℕ → ℕ

@@ -1,7 +1,7 @@
 -- Document 01, "Table file and record file": a node's clock is the condition of the nearest clock node above it, if any. Assumes nothing.
 use mathlib.Core.List.{List}
 use Prim.Native.Nat.{ℕ}
-use Rattle.table.specs.Trees.{Ref, freeR, ClockOf}
+use Rattle.nodes.specs.Clocks.{Ref, freeR, ClockOf}
 
 -- the clock of node k: the one that it has from above, or none where there is none above it. A boolean has none
 pub data ClockIs (s : List ℕ) (k : ℕ) : Ref → Type 0 where

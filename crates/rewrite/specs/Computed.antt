@@ -7,13 +7,13 @@ use lib.Dec.{eqb, ltb}
 use lib.ListN.{length, getD, take, drop}
 use Rattle.refusal.specs.Heading.{count}
 use Rattle.refusal.specs.Computed.{accepted, refused}
-use Rattle.table.specs.declared.nodes.Raw.{Raw}
-use Rattle.table.specs.declared.nodes.Node.{Node}
-use Rattle.table.specs.declared.nodes.Node.the-variants.{Boolean}
-use Rattle.table.specs.declared.nodes.BooleanOp.the-variants.{Constant}
-use Rattle.table.specs.Operators.{sequence, bytes, bytesOf}
-use Rattle.table.specs.Trees.{Ref, freeR, onR}
-use Rattle.table.specs.Computed.{namedBy}
+use Rattle.nodes.specs.declared.Raw.{Raw}
+use Rattle.nodes.specs.declared.Node.{Node}
+use Rattle.nodes.specs.declared.Node.the-variants.{Boolean}
+use Rattle.nodes.specs.declared.BooleanOp.the-variants.{Constant}
+use Rattle.nodes.specs.Operators.{sequence, bytes, bytesOf}
+use Rattle.nodes.specs.Clocks.{Ref, freeR, onR}
+use Rattle.nodes.specs.Computed.{namedBy}
 use Rattle.table.specs.Check.{Checks}
 use Rattle.rewrite.specs.declared.Rewriting.{Rewriting}
 use Rattle.rewrite.specs.Clocks.{Clocks}

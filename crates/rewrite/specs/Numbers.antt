@@ -5,9 +5,9 @@ use mathlib.Core.List.{List}
 use Prim.Native.Nat.{ℕ, zero, suc, _+_, _-_, min}
 use lib.Dec.{eqb}
 use Rattle.refusal.specs.Heading.{count}
-use Rattle.table.specs.Operators.{boolean}
-use Rattle.table.specs.Nodes.{rawAt, rowAt, sortAt}
-use Rattle.table.specs.Trees.{Ref, freeR, onR}
+use Rattle.nodes.specs.Operators.{boolean}
+use Rattle.nodes.specs.Nodes.{rawAt, rowAt, sortAt}
+use Rattle.nodes.specs.Clocks.{Ref, freeR, onR}
 
 -- f 0 + f 1 + .. + f (n - 1)
 unfoldable pub sum : (ℕ → ℕ) → ℕ → ℕ

@@ -4,7 +4,7 @@ use mathlib.Core.List.{List, [], _∷_, _++_}
 use Prim.Native.Nat.{ℕ, _+_, _*_, _<_}
 use lib.ListN.{length, drop}
 use Rattle.refusal.specs.First.{Refusal, when, Answers}
-use Rattle.table.specs.Trees.{Ref}
+use Rattle.nodes.specs.Clocks.{Ref}
 use Rattle.table.specs.Check as Check
 use Rattle.rewrite.specs.declared.Rewriting.{Rewriting}
 use Rattle.rewrite.specs.Clocks.{Clocks}

@@ -3,9 +3,9 @@ use mathlib.Core.Bool.{Bool, cond}
 use mathlib.Core.List.{List, [], _∷_, _++_}
 use Prim.Native.Nat.{ℕ, zero, suc}
 use Rattle.refusal.specs.Heading.{count, mark}
-use Rattle.table.specs.declared.nodes.Raw.{Raw}
-use Rattle.table.specs.Nodes.{rawAt}
-use Rattle.table.specs.Trees.{Ref}
+use Rattle.nodes.specs.declared.Raw.{Raw}
+use Rattle.nodes.specs.Nodes.{rawAt}
+use Rattle.nodes.specs.Clocks.{Ref}
 use Rattle.rewrite.specs.Numbers.{isBoolean, isOther, newCount, startOf, numberOf}
 use Rattle.rewrite.specs.Blocks.{blockUnder}
 

@@ -1,10 +1,10 @@
 // The blocks of document 01, node by node. `at` is the number of a block's first node, c, x, y and what else names a node are new numbers.
 use crate::clocks::UNCLOCKED;
-use table::nodes::Raw;
+use nodes::Raw;
 ghost use mathlib.Core.Path.{_≡_};
 ghost use Prim.Native.Nat.{_<_, _≤_};
 ghost use lib.ListN.{length, getD};
-ghost use Rattle.table.specs.Operators.{bytes, bytesOf};
+ghost use Rattle.nodes.specs.Operators.{bytes, bytesOf};
 ghost use Rattle.rewrite.specs.Blocks.{letterBlock, nextBlock, untilBlock, underBlock};
 ghost use Rattle.rewrite.specs.Computed.{refOf, blank, blankNode, kindBlock};
 

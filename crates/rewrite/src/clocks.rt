@@ -1,9 +1,9 @@
 // The clock of each node: the condition of the nearest clock node above it, if any.
-use table::nodes::named;
-use table::nodes::node_at;
-use table::operators::Row;
-use table::operators::SEQUENCE;
-use table::operators::row_of;
+use nodes::named;
+use nodes::node_at;
+use nodes::operators::Row;
+use nodes::operators::SEQUENCE;
+use nodes::operators::row_of;
 ghost use mathlib.Core.Path.{_≡_};
 ghost use mathlib.Core.Bool.{cond};
 ghost use Prim.Native.Nat.{_≤_};

@@ -1,10 +1,10 @@
 // The new numbers: first all booleans in their order, then one block per other node in order.
 use crate::clocks::UNCLOCKED;
+use nodes::named;
+use nodes::node_at;
+use nodes::operators::BOOLEAN;
+use nodes::operators::row_of;
 use refusal::wide;
-use table::nodes::named;
-use table::nodes::node_at;
-use table::operators::BOOLEAN;
-use table::operators::row_of;
 ghost use mathlib.Core.Path.{_≡_};
 ghost use mathlib.Core.Bool.{cond, false};
 ghost use Prim.Native.Nat.{_*_, _-_, _<_, _≤_};

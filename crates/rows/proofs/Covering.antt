@@ -8,7 +8,7 @@ use native.Mathlib.Numerals.{add-one}
 use native.Mathlib.Omega.{arith}
 use lib.Dec.{T, eqb, leb}
 use borrow.Author.Tests.{lt-leb}
-use Rattle.telling.specs.Tests.{Tells, some}
+use Rattle.telling.specs.Tells.{Tells, some}
 use Rattle.telling.proofs.Telling.{passes, passed, fails, is-test, is-and, is-or, is-not, is-eq, is-le, is-map, is-as, is-some, decide, side, same-test}
 use Rattle.positions.specs.Member.{has, Is, Lowest}
 use Rattle.positions.proofs.Laws.{has-none}

@@ -10,11 +10,11 @@ use native.Mathlib.Omega.{arith}
 use borrow.Author.Tests.{ne-eqb}
 use lib.ListN.{length, getD, take, drop, set, length-append, length-drop, length-set, List·getD-append}
 use lib.Seq.{take-at, getD-append-add, getD-drop, getD-set-same, getD-set-other, drop-at, drop-drop}
-use Rattle.table.specs.declared.nodes.Node.{Node}
-use Rattle.table.specs.declared.nodes.Node.the-variants.{Boolean, Property}
-use Rattle.table.specs.declared.nodes.BooleanOp.{BooleanOp}
-use Rattle.table.specs.declared.nodes.PropertyOp.{PropertyOp}
-use Rattle.table.specs.Nodes.{nodeAt}
+use Rattle.nodes.specs.declared.Node.{Node}
+use Rattle.nodes.specs.declared.Node.the-variants.{Boolean, Property}
+use Rattle.nodes.specs.declared.BooleanOp.{BooleanOp}
+use Rattle.nodes.specs.declared.PropertyOp.{PropertyOp}
+use Rattle.nodes.specs.Nodes.{nodeAt}
 use Rattle.positions.specs.Member.{Is}
 use Rattle.positions.proofs.Laws.{ext, has-none}
 use Rattle.rows.specs.declared.cells.Suffixes.{Suffixes}

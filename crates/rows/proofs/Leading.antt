@@ -8,7 +8,7 @@ use native.Mathlib.Omega.{arith}
 use lib.Dec.{T, eqb, leb, ltb}
 use lib.Pow.{pow-pos, pow-mono, pow-lt}
 use borrow.Author.Tests.{lt-ltb, le-ltb, eq-eqb, ne-eqb, leb-true, leb-false}
-use Rattle.telling.specs.Tests.{Tells, some, every}
+use Rattle.telling.specs.Tells.{Tells, some, every}
 use Rattle.telling.proofs.Telling.{is-map, is-test, is-and, is-or, is-some, is-every, same-test, side}
 use Rattle.positions.specs.Member.{has, Is}
 use Rattle.rows.specs.declared.untils.Led.{Led}

@@ -6,11 +6,10 @@ use Prim.Native.Nat.{ℕ, suc, _+_}
 use native.Mathlib.Omega.{arith}
 use lib.Dec.{eqb, leb, ltb}
 use borrow.Author.Tests.{lt-ltb, le-ltb, eqb-true, eqb-false}
-use Rattle.telling.specs.Tests.{some}
-use Rattle.telling.proofs.Telling.{some-same}
+use Rattle.telling.specs.Tells.{some}
+use Rattle.telling.proofs.Telling.{some-same, leb-same}
 use Rattle.positions.specs.Member.{has, Is}
 use Rattle.rows.specs.Bits.{follows}
-use Rattle.positions.proofs.Tests.{leb-same}
 
 -- ---- a loop that asks the places 0, 1, ..
 

@@ -10,12 +10,11 @@ use lib.Dec.{eqb, leb, ltb, eqb·zero-suc}
 use lib.ListN.{length, getD, take, drop, set, length-set, length-take, length-drop}
 use lib.Seq.{getD-set-same, getD-set-other, getD-take, getD-drop, length-take-le}
 use borrow.Author.Tests.{le-leb, lt-leb, leb-true, lt-ltb, ltb-true, eq-eqb, eqb-true, eqb-false, ne-eqb}
-use Rattle.telling.proofs.Telling.{side}
+use Rattle.telling.proofs.Telling.{side, leb-same}
 use Rattle.positions.specs.Member.{has, Is}
-use Rattle.positions.proofs.Tests.{leb-same}
 use Rattle.positions.proofs.Laws.{has-none}
-use Rattle.table.specs.declared.nodes.SequenceOp.{SequenceOp}
-use Rattle.table.specs.declared.nodes.SequenceOp.the-variants.{Letter, Either, Clocked}
+use Rattle.nodes.specs.declared.SequenceOp.{SequenceOp}
+use Rattle.nodes.specs.declared.SequenceOp.the-variants.{Letter, Either, Clocked}
 use Rattle.rows.specs.declared.sequences.Found.{Found}
 use Rattle.rows.specs.Shares.{share, topWord, longest, wordIn}
 use Rattle.rows.specs.Bits.{longer, Forward, sequenceBit, goesOn, startsOpen, topBit, Finds, readySequence}

@@ -9,7 +9,7 @@ use native.Mathlib.Nat.{eq-or-lt-of-le}
 use native.Mathlib.Omega.{arith}
 use lib.Dec.{T, ltb}
 use lib.ListN.{getD}
-use Rattle.telling.specs.Tests.{Tells}
+use Rattle.telling.specs.Tells.{Tells}
 use Rattle.telling.proofs.Telling.{passed, fails, is-test, is-and, is-or, is-as, is-lt, side}
 use Rattle.positions.specs.Member.{has, Is}
 use Rattle.rows.specs.Shares.{wordIn, bitIn}

@@ -11,7 +11,7 @@ use lib.Dec.{T, eqb, leb}
 use lib.ListN.{length, getD, set}
 use lib.Seq.{getD-set-same, getD-set-other}
 use borrow.Author.Tests.{le-leb, lt-leb}
-use Rattle.telling.specs.Tests.{Tells, some}
+use Rattle.telling.specs.Tells.{Tells, some}
 use Rattle.telling.proofs.Telling.{passed, fails, decide, is-test, is-and, is-or, is-not, is-eq, is-map, is-as, is-some, same-test, some-same}
 use Rattle.positions.specs.Member.{has, Is, Lowest}
 use Rattle.positions.proofs.Laws.{has-none}

@@ -6,15 +6,15 @@ use mathlib.Core.List.{List}
 use Prim.Native.Nat.{ℕ, zero, suc, _+_, _-_, _<_, _≤_}
 use lib.Dec.{T, eqb, leb, ltb}
 use lib.ListN.{length, getD}
-use Rattle.telling.specs.Tests.{some, every}
+use Rattle.telling.specs.Tells.{some, every}
 use Rattle.meaning.specs.Words.{Tail, none, tops, bots, other}
 use Rattle.positions.specs.Member.{has, Is}
-use Rattle.table.specs.declared.nodes.BooleanOp.{BooleanOp}
-use Rattle.table.specs.declared.nodes.BooleanOp.the-variants.{Constant, Signal, Not, And, Or}
-use Rattle.table.specs.declared.nodes.SequenceOp.{SequenceOp}
-use Rattle.table.specs.declared.nodes.SequenceOp.the-variants.{Letter, Then, Fused, Either, Empty, Repeat, Clocked}
-use Rattle.table.specs.declared.nodes.PropertyOp.{PropertyOp}
-use Rattle.table.specs.declared.nodes.PropertyOp.the-variants.{Strong, Weak, Negated, AnyOf, BothOf, Implies, Next, Until, Ticked}
+use Rattle.nodes.specs.declared.BooleanOp.{BooleanOp}
+use Rattle.nodes.specs.declared.BooleanOp.the-variants.{Constant, Signal, Not, And, Or}
+use Rattle.nodes.specs.declared.SequenceOp.{SequenceOp}
+use Rattle.nodes.specs.declared.SequenceOp.the-variants.{Letter, Then, Fused, Either, Empty, Repeat, Clocked}
+use Rattle.nodes.specs.declared.PropertyOp.{PropertyOp}
+use Rattle.nodes.specs.declared.PropertyOp.the-variants.{Strong, Weak, Negated, AnyOf, BothOf, Implies, Next, Until, Ticked}
 use Rattle.rows.specs.declared.sequences.Found.{Found}
 use Rattle.rows.specs.declared.untils.Led.{Led}
 use Rattle.rows.specs.declared.cells.Suffixes.{Suffixes}

@@ -8,12 +8,12 @@ use lib.Dec.{eqb, leb}
 use lib.ListN.{length, getD, take, drop}
 use Rattle.meaning.specs.Words.{none, tops, bots}
 use Rattle.positions.specs.Member.{Is, collect}
-use Rattle.table.specs.Nodes.{nodeAt}
-use Rattle.table.specs.declared.nodes.Node.{Node}
-use Rattle.table.specs.declared.nodes.Node.the-variants.{Boolean, Sequence, Property}
-use Rattle.table.specs.declared.nodes.BooleanOp.{BooleanOp}
-use Rattle.table.specs.declared.nodes.SequenceOp.{SequenceOp}
-use Rattle.table.specs.declared.nodes.PropertyOp.{PropertyOp}
+use Rattle.nodes.specs.Nodes.{nodeAt}
+use Rattle.nodes.specs.declared.Node.{Node}
+use Rattle.nodes.specs.declared.Node.the-variants.{Boolean, Sequence, Property}
+use Rattle.nodes.specs.declared.BooleanOp.{BooleanOp}
+use Rattle.nodes.specs.declared.SequenceOp.{SequenceOp}
+use Rattle.nodes.specs.declared.PropertyOp.{PropertyOp}
 use Rattle.rows.specs.Shares.{share, topWord, longest}
 use Rattle.rows.specs.Bits.{booleanBit, sequenceBit, goesOn, topBit, propertyBit, readyBoolean, readySequence, readyProperty}
 

@@ -1,7 +1,7 @@
 // A boolean's word: the samples that satisfy it.
 use crate::cells::word_at;
+use nodes::BooleanOp;
 use positions::PositionSet;
-use table::nodes::BooleanOp;
 ghost use mathlib.Core.Bool.{not, _&&_};
 ghost use Prim.Native.Nat.{_≤_, _<_};
 ghost use lib.Dec.{ltb};

@@ -9,27 +9,31 @@ use mathlib.Core.List.{List}
 use Prim.Native.Nat.{ℕ, suc, _+_, _*_, _<_, _≤_}
 use lib.Dec.{T, eqb, leb}
 use lib.ListN.{length, take, drop}
-use Rattle.telling.specs.Tests.{Tells}
+use Rattle.telling.specs.Tells.{Tells}
 use Rattle.telling.proofs.Telling.{is-map, is-or, is-and, is-not, is-eq, is-lt, is-le, passed}
 use Rattle.refusal.specs.declared.Verdict.{Verdict}
 use Rattle.refusal.specs.Heading.{count, version, mark, headingRefusals}
 use Rattle.refusal.specs.First.{LowestSuch, when, atLowest, Answers, NotGiven}
 use Rattle.refusal.specs.Computed.{refused, accepted, at0, atFirst, headingCases}
-use Rattle.refusal.proofs.Deciding.{Decided, Decides, Other, reached, beyond, decided-when, decided-lowest, decides-append, not-applied, none-below, answers, only, answers-none, none-given, Singles, single-when, single-lowest}
-use Rattle.refusal.proofs.Headings.{decides-heading}
-use Rattle.table.specs.declared.nodes.Node.{Node}
-use Rattle.table.specs.Operators.{boolean, sequence, property}
-use Rattle.table.specs.Nodes.{rawAt, rowAt, sortAt, nodeAt, usesOf, root, WellFormed, Astray}
+use Rattle.refusal.proofs.Firsts.{none-below}
+use Rattle.refusal.proofs.Deciding.{Decided, Decides, decided-when, decided-lowest, decides-append, not-applied, answers}
+use Rattle.refusal.proofs.Given.{Other, reached, beyond, answers-none, none-given}
+use Rattle.refusal.proofs.Unique.{Singles, single-when, single-lowest, singles-append, answers-unique}
+use Rattle.refusal.proofs.Headings.{decides-heading, heading-singles}
+use Rattle.nodes.specs.declared.Node.{Node}
+use Rattle.nodes.specs.Operators.{boolean, sequence, property}
+use Rattle.nodes.specs.Nodes.{rawAt, rowAt, sortAt, nodeAt, usesOf, root, WellFormed, Astray}
 use Rattle.table.specs.Check.{Asks, by-strong, by-weak, by-implies, Hollow, refusals, Checks}
-use Rattle.table.specs.Flags.{hollow}
-use Rattle.table.specs.Computed.{nodeFits, unfit, astray, nodeCases, laterCases, cases, checked}
+use Rattle.faults.specs.Flags.{hollow}
+use Rattle.faults.specs.Computed.{nodeFits, unfit, astray}
+use Rattle.table.specs.Computed.{nodeCases, laterCases, cases, checked}
 use Rattle.table.proofs.Forming.{fits-tells}
-use Rattle.table.proofs.Shapes.{sortOf, sort-is}
-use Rattle.table.proofs.Standing.{sequence-in}
+use Rattle.nodes.proofs.Shapes.{sortOf, sort-is}
+use Rattle.table.proofs.Standing.{sequence-in, clock-in}
 use Rattle.table.proofs.Topping.{asked, asks-of, hollow-tells}
-use Rattle.table.proofs.Placing.{fine-row}
-use Rattle.table.proofs.Built.{Built}
-use Rattle.table.proofs.Clocking.{clock-exists}
+use Rattle.nodes.proofs.Placing.{fine-row}
+use Rattle.nodes.proofs.Built.{Built}
+use Rattle.nodes.proofs.Clocking.{clock-exists}
 
 module _ (s : List ℕ) where
   -- ---- 6
@@ -72,7 +76,8 @@ module _ (s : List ℕ) where
           let (x, a) = asks-of s (count s) (ok .fit) k l t in
           let (e, b, z) = asked s (count s) (ok .fit) k l a refl in
           let (r, d) = sequence-in s (count s) (ok .fit) (count s) x (omega arith) (omega arith) z in
-          let (ρ, c, (κ, m)) = clock-exists s ok k l (heavy k l a) in
+          let (ρ, c, o) = clock-exists s ok k l (heavy k l a) in
+          let (κ, m) = clock-in s ok ρ o in
           record {
             x = x;
             asks = a;
@@ -139,10 +144,6 @@ module _ (s : List ℕ) where
   pub checks : (v : Verdict) → v ≡ checked s → Checks s v
   unfolding checked
   checks v e = subst (Checks s) (sym e) (answers (cases s) (refusals s) decides)
-
-  pub checks-only : (v : Verdict) → Checks s v → v ≡ checked s
-  unfolding checked
-  checks-only v c = only (cases s) (refusals s) decides v c
 
 -- ---- what an answer says of a table
 
@@ -234,7 +235,10 @@ module _ (s : List ℕ) where
   -- each is given at one node at most
   pub table-singles : Singles (refusals s)
   unfolding refusals
-  table-singles = (
-    single-when 1 _,
-    (single-when 2 _, (single-when 3 _, (single-when 4 _, (single-when 5 _, (single-lowest 6 _ _, (single-lowest 7 _ _, (single-when 8 _, (single-lowest 9 _ _, tt)))))))),
-  )
+  table-singles =
+      singles-append (headingRefusals 0x54 s) (drop 3 (refusals s)) (heading-singles 0x54 s)
+      (single-when 4 _, (single-when 5 _, (single-lowest 6 _ _, (single-lowest 7 _ _, (single-when 8 _, (single-lowest 9 _ _, tt))))))
+
+  -- and so no second verdict fits
+  pub checks-only : (v : Verdict) → Checks s v → v ≡ checked s
+  checks-only v c = answers-unique (refusals s) table-singles v (checked s) c (checks s (checked s) refl)

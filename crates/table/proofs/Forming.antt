@@ -1,17 +1,14 @@
--- The test of a node decides that it is well formed, and a well-formed node is decoded to the node that has its bytes. Assumes nothing.
-use native.Mathlib.Omega.{arith}
-use mathlib.Core.Path.{_≡_, _∙_, sym, ap}
+-- The test of a node decides that it is well formed. Assumes nothing.
+use mathlib.Core.Path.{_≡_}
 use mathlib.Core.Bool.{Bool, true, false, cond, _&&_}
 use mathlib.Core.List.{List}
 use Prim.Native.Nat.{ℕ}
 use lib.Dec.{eqb, ltb}
-use Rattle.telling.specs.Tests.{Tells}
+use Rattle.telling.specs.Tells.{Tells}
 use Rattle.telling.proofs.Telling.{is-map, is-and, is-not, is-eq, is-lt}
-use Rattle.table.specs.declared.nodes.Node.{Node}
-use Rattle.table.specs.Operators.{none, bytesOf}
-use Rattle.table.specs.Nodes.{rawAt, rowAt, sortAt, nodeAt, Operand, WellFormed}
-use Rattle.table.specs.Computed.{operandFits, nodeFits}
-use Rattle.table.proofs.Coded.{coded}
+use Rattle.nodes.specs.Operators.{none}
+use Rattle.nodes.specs.Nodes.{rawAt, rowAt, sortAt, Operand, WellFormed}
+use Rattle.faults.specs.Computed.{operandFits, nodeFits}
 
 operand-tells : (s : List ℕ) (k sort limit v : ℕ) → Tells (operandFits s k sort limit v) (Operand s k sort limit v)
 unfolding operandFits
@@ -34,13 +31,3 @@ fits-tells s k =
     (is-and (operand-tells s k (rowAt s k .x) (rowAt s k .limit) (rawAt s k .x)) (operand-tells s k (rowAt s k .y) 1 (rawAt s k .y)))))
     (λ q. record { known = q .0; x = q .1 .1 .0; y = q .1 .1 .1; fourth = q .1 .0 })
     (λ w. (w .known, (w .fourth, (w .x, w .y))))
-
--- the decoded node says what its bytes say
-pub coded-at : (s : List ℕ) (k : ℕ) → WellFormed s k → bytesOf (nodeAt s k) ≡ rawAt s k
-unfolding sortAt
-coded-at s k w =
-    coded (rawAt s k) (record { known = w .known; unused = λ z. let h = w .y .number z in omega arith; fourth = w .fourth })
-
--- the bytes of a node whose kind is known
-pub coded-as : (s : List ℕ) (k : ℕ) → WellFormed s k → {v : Node} → nodeAt s k ≡ v → rawAt s k ≡ bytesOf v
-coded-as s k w e = sym (coded-at s k w) ∙ ap bytesOf e

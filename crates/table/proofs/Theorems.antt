@@ -1,38 +1,40 @@
 -- The theorems of checking a table. Assumes nothing.
 use native.Mathlib.Omega.{arith}
-use mathlib.Core.Path.{_≡_, refl, _∙_, sym}
+use mathlib.Core.Path.{_≡_, refl}
 use mathlib.Core.Logic.{_⊎_, ⊎-elim}
 use mathlib.Core.List.{List}
 use Prim.Native.Nat.{ℕ, _<_, _≤_}
 use Rattle.refusal.specs.declared.Verdict.{Verdict}
 use Rattle.refusal.specs.Heading.{count}
+use Rattle.refusal.proofs.Unique.{answers-unique}
 use Rattle.meaning.specs.Parts.{Tree, seq, prop, Within}
 use Rattle.meaning.specs.Syntax.{Bexp, Seq, Prop, strong, weak, implies, Clock, free}
 use Rattle.meaning.specs.Meaning.{Topped, Accepted}
 use Rattle.meaning.specs.Signal.{signal}
 use Rattle.meaning.proofs.Entering.{AcceptedTree, within-accepted}
-use Rattle.table.specs.declared.nodes.Node.{Node}
-use Rattle.table.specs.Operators.{boolean, sequence, property}
-use Rattle.table.specs.Nodes.{sortAt, nodeAt, root}
-use Rattle.table.specs.Trees.{BooleanAt, SequenceAt, PropertyAt, p-strong, p-weak, p-imp, TreeAt, t-seq, t-prop, Ref, ClockOf, c-root, c-part, ClockAt}
-use Rattle.table.specs.Check.{Asks, by-strong, by-weak, by-implies, Checks}
+use Rattle.nodes.specs.declared.Node.{Node}
+use Rattle.nodes.specs.Operators.{boolean, sequence, property}
+use Rattle.nodes.specs.Nodes.{sortAt, nodeAt, root}
+use Rattle.nodes.specs.Clocks.{Ref, ClockOf, c-root, c-part}
+use Rattle.table.specs.Trees.{BooleanAt, SequenceAt, PropertyAt, p-strong, p-weak, p-imp, TreeAt, t-seq, t-prop, ClockAt}
+use Rattle.table.specs.Check.{Asks, by-strong, by-weak, by-implies, Checks, refusals}
 use Rattle.table.specs.Computed.{checked}
-use Rattle.table.proofs.Built.{Built}
+use Rattle.nodes.proofs.Built.{Built}
 use Rattle.table.proofs.Reading.{uniqueB, uniqueS, uniqueP, uniqueC}
-use Rattle.table.proofs.Shapes.{down}
-use Rattle.table.proofs.Standing.{boolean-in, sequence-in, property-in}
+use Rattle.nodes.proofs.Shapes.{down}
+use Rattle.table.proofs.Standing.{boolean-in, sequence-in, property-in, clock-in}
 use Rattle.table.proofs.Topping.{accepted-at}
-use Rattle.table.proofs.Clocking.{clock-exists, clock-unique, clock-inside, clock-known}
-use Rattle.table.proofs.Placing.{part-sort}
+use Rattle.nodes.proofs.Clocking.{clock-exists, clock-unique, clock-inside, clock-boolean}
+use Rattle.nodes.proofs.Placing.{part-sort}
 use Rattle.table.proofs.Within.{tree-unique, read-under}
-use Rattle.table.proofs.Checking.{checks, checks-only, sound, hollow-one, sorts}
+use Rattle.table.proofs.Checking.{checks, sound, hollow-one, sorts, table-singles}
 
 -- every table has one verdict
 pub exists : (s : List ℕ) → (v : Verdict) × Checks s v
 exists s = (checked s, checks s (checked s) refl)
 
 pub unique : (s : List ℕ) (u v : Verdict) → Checks s u → Checks s v → u ≡ v
-unique s u v a b = checks-only s u a ∙ sym (checks-only s v b)
+unique s u v a b = answers-unique (refusals s) (table-singles s) u v a b
 
 -- R holds of one thing alone
 abbrev pub ExactlyOne : (A : Type 0) → (A → Type 0) → Type 0
@@ -63,7 +65,7 @@ module _ (s : List ℕ) (ok : Built s) where
       → ClockOf s k ρ → ClockAt (nodeAt s) ρ κ → TreeAt (nodeAt s) k q → Within free t κ q
   read-there t d k ρ κ q c e f =
       read-under s (ok .fit) (λ j σ g. clocked-in g)
-      (λ j σ g. (tree-at j (clocked-in g) (clocked-sort g), clock-known s ok g))
+      (λ j σ g. (tree-at j (clocked-in g) (clocked-sort g), clock-in s ok σ (clock-boolean s ok g)))
       t d c e f
 
   -- a node that asks for the sequence r stands for a property that is accepted only if r is topped
@@ -98,7 +100,8 @@ module _ (s : List ℕ) (v : Verdict) (c : Checks s v) (z : v .number ≡ 0) whe
     pub one-clock : (sortAt s k ≡ sequence) ⊎ (sortAt s k ≡ property) → (ρ : Ref) × ClockOf s k ρ × ((σ : Ref) → ClockOf s k σ → ρ ≡ σ) × ExactlyOne (Clock ℕ) (ClockAt (nodeAt s) ρ)
     one-clock e =
         let l : sequence ≤ sortAt s k = ⊎-elim (λ (q : sortAt s k ≡ sequence). omega arith) (λ (q : sortAt s k ≡ property). omega arith) e in
-        let (ρ, d, (κ, m)) = clock-exists s ok k h l in
+        let (ρ, d, o) = clock-exists s ok k h l in
+        let (κ, m) = clock-in s ok ρ o in
         (ρ, d, λ σ f. clock-unique s ok d f, (κ, m, λ μ f. uniqueC m f))
 
   -- the root stands for exactly one tree, a sequence or a property

@@ -1,17 +1,13 @@
 -- The two flags of a sequence are what matching says of letters ⊤ alone, under every clock. So a node is hollow exactly where the page refuses it with 9,
 -- and a property of a table with no such node is accepted by the meaning. Assumes nothing.
 use native.Mathlib.Omega.{arith}
-use native.Mathlib.Nat.{not-suc-le-zero, eq-or-lt-of-le, le-of-suc-le-suc}
 use borrow.Author.Tests.{not-false}
 use mathlib.Core.Path.{_≡_, refl, _∙_, sym, ap, subst}
-use mathlib.Core.Logic.{⊎-elim}
 use mathlib.Core.Bool.{Bool, true, false, not, _&&_, _||_, or-false, and-false}
-use mathlib.Core.List.{List, [], _∷_}
-use Prim.Native.Nat.{ℕ, zero, suc, _<_}
+use mathlib.Core.List.{List}
+use Prim.Native.Nat.{ℕ, _<_}
 use lib.Dec.{T}
-use lib.ListN.{length, length-append, List·getD-append}
-use lib.Seq.{getD-at}
-use Rattle.telling.specs.Tests.{Tells, some, every}
+use Rattle.telling.specs.Tells.{Tells, some, every}
 use Rattle.telling.proofs.Telling.{is-not, passed}
 use Rattle.meaning.specs.Syntax.{Seq, Prop, Clock, free, on}
 use Rattle.meaning.specs.Words.{top}
@@ -19,55 +15,33 @@ use Rattle.meaning.specs.Meaning.{Topped, Accepted}
 use Rattle.meaning.specs.Signal.{signal}
 use Rattle.meaning.proofs.Eval.{matchB, plusB, topB}
 use Rattle.meaning.proofs.Leveling.{toppedB, is-topped}
-use Rattle.table.specs.declared.nodes.Node.{Node}
-use Rattle.table.specs.declared.nodes.Node.the-variants.{Boolean, Sequence, Property}
-use Rattle.table.specs.declared.nodes.PropertyOp.the-variants.{Strong, Weak, Negated, AnyOf, BothOf, Implies, Next, Until, Ticked}
-use Rattle.table.specs.declared.topped.Tops.{Tops}
-use Rattle.table.specs.declared.nodes.Raw.{Raw}
-use Rattle.table.specs.Operators.{sequence, bytesOf, sequenceBytes, propertyBytes}
-use Rattle.table.specs.Nodes.{rawAt, sortAt, nodeAt, WellFormed}
+use Rattle.nodes.specs.declared.Node.{Node}
+use Rattle.nodes.specs.declared.Node.the-variants.{Boolean, Sequence, Property}
+use Rattle.nodes.specs.declared.PropertyOp.the-variants.{Strong, Weak, Negated, AnyOf, BothOf, Implies, Next, Until, Ticked}
+use Rattle.faults.specs.declared.topped.Tops.{Tops}
+use Rattle.nodes.specs.declared.Raw.{Raw}
+use Rattle.nodes.specs.Operators.{sequence, bytesOf, sequenceBytes, propertyBytes}
+use Rattle.nodes.specs.Nodes.{rawAt, sortAt, nodeAt, WellFormed}
 use Rattle.table.specs.Trees.{SequenceAt, s-one, s-cat, s-fuse, s-alt, s-empty, s-plus, s-clock, PropertyAt, p-strong, p-weak, p-neg, p-either, p-both, p-imp, p-next, p-until, p-clock}
 use Rattle.table.specs.Check.{Asks, by-strong, by-weak, by-implies}
-use Rattle.table.specs.Flags.{flags, nothing, topsAt, thenTops, sequenceTops, nodeTops, topsBelow, hollowProperty, hollowNode, hollow}
-use Rattle.table.proofs.Forming.{coded-as}
-use Rattle.table.proofs.Shapes.{down}
+use Rattle.faults.specs.Flags.{flags, topsAt, thenTops, sequenceTops, nodeTops, topsBelow, hollowProperty, hollowNode, hollow}
+use Rattle.nodes.proofs.Coded.{coded-as}
+use Rattle.nodes.proofs.Shapes.{down}
+use Rattle.faults.proofs.Keeping.{ofX, ofY, flagsAt, flags-of}
 
--- ---- the flags of each node, from those of the nodes below
+-- ---- the flags of a node's operands
 
 module _ (s : List ℕ) where
-  -- what is known of the operands of node k, and of the node
-  abbrev pub ofX : ℕ → Tops
-  ofX k = topsAt (topsBelow s k) (rawAt s k .x)
-
-  abbrev pub ofY : ℕ → Tops
-  ofY k = topsAt (topsBelow s k) (rawAt s k .y)
-
-  abbrev pub flagsAt : ℕ → Tops
-  flagsAt k = nodeTops (nodeAt s k) (ofX k) (ofY k)
-
-  pub long : (n : ℕ) → length (topsBelow s n) ≡ n
-  unfolding topsBelow
-  long zero = refl
-  long (suc n) = length-append (topsBelow s n) (flagsAt n ∷ []) ∙ (let e = long n in omega arith)
-
-  at : (n k : ℕ) → k < n → topsAt (topsBelow s n) k ≡ flagsAt k
-  unfolding topsBelow
-  at zero k h = absurd (not-suc-le-zero h)
-  at (suc n) k h =
-      ⊎-elim (λ e. rw e (getD-at (topsBelow s n) (flagsAt n) [] nothing n (long n)))
-      (λ l. List·getD-append (topsBelow s n) (flagsAt n ∷ []) nothing k (rw (long n) l) ∙ at n k l)
-      (eq-or-lt-of-le (le-of-suc-le-suc h))
-
   -- the operands of a node of a known kind
   module _ {k : ℕ} {v : Node} (w : WellFormed s k) (e : nodeAt s k ≡ v) where
     raw-is : rawAt s k ≡ bytesOf v
     raw-is = coded-as s k w e
 
-    x-flags : bytesOf v .x < k → ofX k ≡ flagsAt (bytesOf v .x)
-    x-flags l = ap (λ (r : Raw). topsAt (topsBelow s k) (r .x)) raw-is ∙ at k (bytesOf v .x) l
+    x-flags : bytesOf v .x < k → ofX s k ≡ flagsAt s (bytesOf v .x)
+    x-flags l = ap (λ (r : Raw). topsAt (topsBelow s k) (r .x)) raw-is ∙ flags-of s k (bytesOf v .x) l
 
-    y-flags : bytesOf v .y < k → ofY k ≡ flagsAt (bytesOf v .y)
-    y-flags l = ap (λ (r : Raw). topsAt (topsBelow s k) (r .y)) raw-is ∙ at k (bytesOf v .y) l
+    y-flags : bytesOf v .y < k → ofY s k ≡ flagsAt s (bytesOf v .y)
+    y-flags l = ap (λ (r : Raw). topsAt (topsBelow s k) (r .y)) raw-is ∙ flags-of s k (bytesOf v .y) l
 
 -- ---- the tests of matching, of letters ⊤ alone
 

@@ -10,12 +10,13 @@ use Rattle.refusal.specs.Heading.{headingRefusals, count}
 use Rattle.meaning.specs.Syntax.{Seq, Clock}
 use Rattle.meaning.specs.Meaning.{Topped}
 use Rattle.meaning.specs.Signal.{signal}
-use Rattle.table.specs.declared.nodes.Node.{Node}
-use Rattle.table.specs.declared.nodes.Node.the-variants.{Property}
-use Rattle.table.specs.declared.nodes.PropertyOp.the-variants.{Strong, Weak, Implies}
-use Rattle.table.specs.Operators.{boolean}
-use Rattle.table.specs.Nodes.{sortAt, nodeAt, root, WellFormed, Astray}
-use Rattle.table.specs.Trees.{SequenceAt, Ref, ClockOf, ClockAt}
+use Rattle.nodes.specs.declared.Node.{Node}
+use Rattle.nodes.specs.declared.Node.the-variants.{Property}
+use Rattle.nodes.specs.declared.PropertyOp.the-variants.{Strong, Weak, Implies}
+use Rattle.nodes.specs.Operators.{boolean}
+use Rattle.nodes.specs.Nodes.{sortAt, nodeAt, root, WellFormed, Astray}
+use Rattle.nodes.specs.Clocks.{Ref, ClockOf}
+use Rattle.table.specs.Trees.{SequenceAt, ClockAt}
 
 -- strong, weak or `|->` over x
 pub data Asks : Node → ℕ → Type 0 where

@@ -1,17 +1,18 @@
--- The tree that each node of a table stands for, and the clock of a node. T gives the nodes. Assumes nothing.
+-- The tree that each node of a table stands for, and what a clock given by the number of its condition's node stands for. T gives the nodes.
+-- Assumes nothing.
 use mathlib.Core.Path.{_≡_}
 use mathlib.Core.List.{List}
-use Prim.Native.Nat.{ℕ, _≤_}
+use Prim.Native.Nat.{ℕ}
 use lib.Dec.{eqb}
 use Rattle.meaning.specs.Syntax.{Bexp, const, atom, nott, andd, orr, Seq, one, cat, fuse, alt, empty, plus, clocked, Prop, strong, weak, neg, either, both, implies, next, until, under, Clock, free, on}
 use Rattle.meaning.specs.Parts.{Tree, seq, prop}
-use Rattle.table.specs.declared.nodes.Node.{Node}
-use Rattle.table.specs.declared.nodes.Node.the-variants.{Boolean, Sequence, Property}
-use Rattle.table.specs.declared.nodes.BooleanOp.the-variants.{Constant, Signal, Not, And, Or}
-use Rattle.table.specs.declared.nodes.SequenceOp.the-variants.{Letter, Then, Fused, Either, Empty, Repeat, Clocked}
-use Rattle.table.specs.declared.nodes.PropertyOp.the-variants.{Strong, Weak, Negated, AnyOf, BothOf, Implies, Next, Until, Ticked}
-use Rattle.table.specs.Operators.{sequence}
-use Rattle.table.specs.Nodes.{rawAt, rowAt, nodeAt, root}
+use Rattle.nodes.specs.declared.Node.{Node}
+use Rattle.nodes.specs.declared.Node.the-variants.{Boolean, Sequence, Property}
+use Rattle.nodes.specs.declared.BooleanOp.the-variants.{Constant, Signal, Not, And, Or}
+use Rattle.nodes.specs.declared.SequenceOp.the-variants.{Letter, Then, Fused, Either, Empty, Repeat, Clocked}
+use Rattle.nodes.specs.declared.PropertyOp.the-variants.{Strong, Weak, Negated, AnyOf, BothOf, Implies, Next, Until, Ticked}
+use Rattle.nodes.specs.Nodes.{nodeAt, root}
+use Rattle.nodes.specs.Clocks.{Ref, freeR, onR}
 
 -- ---- trees
 
@@ -55,41 +56,6 @@ abbrev pub RootP : List ℕ → Prop ℕ → Type 0
 RootP s P = PropertyAt (nodeAt s) (root s) P
 
 -- ---- clocks
-
--- a clock by the number of its condition's node
-pub data Ref : Type 0 where
-  freeR : Ref
-  onR : ℕ → Ref
-
--- k stands in an operand place of p that is for a sequence or a property
-pub data Part (s : List ℕ) (p k : ℕ) : Type 0 where
-  at-x : sequence ≤ rowAt s p .x → rawAt s p .x ≡ k → Part s p k
-  at-y : sequence ≤ rowAt s p .y → rawAt s p .y ≡ k → Part s p k
-
--- the clock that a node whose own is ρ hands down to its parts: a clock node its condition, any other its own
-abbrev pub handed : Node → Ref → Ref
-handed (Boolean o) ρ = ρ
-handed (Sequence (Letter x)) ρ = ρ
-handed (Sequence (Then x y)) ρ = ρ
-handed (Sequence (Fused x y)) ρ = ρ
-handed (Sequence (Either x y)) ρ = ρ
-handed (Sequence (Empty x)) ρ = ρ
-handed (Sequence (Repeat x)) ρ = ρ
-handed (Sequence (Clocked c x)) ρ = onR c
-handed (Property (Strong x)) ρ = ρ
-handed (Property (Weak x)) ρ = ρ
-handed (Property (Negated x)) ρ = ρ
-handed (Property (AnyOf x y)) ρ = ρ
-handed (Property (BothOf x y)) ρ = ρ
-handed (Property (Implies x y)) ρ = ρ
-handed (Property (Next x)) ρ = ρ
-handed (Property (Until x y)) ρ = ρ
-handed (Property (Ticked c x)) ρ = onR c
-
--- a node's clock is the condition of the nearest clock node above it, if any: the root has none, and each part has what is handed down to it
-pub data ClockOf (s : List ℕ) : ℕ → Ref → Type 0 where
-  c-root : ClockOf s (root s) freeR
-  c-part : {p k : ℕ} {ρ : Ref} → ClockOf s p ρ → Part s p k → ClockOf s k (handed (nodeAt s p) ρ)
 
 -- the clock that the number stands for
 pub data ClockAt (T : ℕ → Node) : Ref → Clock ℕ → Type 0 where

@@ -1,17 +1,12 @@
-// Checking a table: refusals 1 to 9, the first that applies, for any bytes.
-mod formed;
-pub mod nodes;
-pub mod operators;
-mod placed;
-mod topped;
-
-use formed::first_unfit;
+// Checking a table: refusals 1 to 9, the first that applies, for any bytes. The tests of its nodes are those of `faults`; what the nodes stand for,
+// and that the tests say what the page says, is stated and proved here.
+use faults::formed::first_unfit;
+use faults::placed::first_astray;
+use faults::topped::first_hollow;
+use nodes::operators::BOOLEAN;
 use nodes::sort_at;
-use operators::BOOLEAN;
-use placed::first_astray;
 use refusal::Verdict;
 use refusal::wide;
-use topped::first_hollow;
 ghost use mathlib.Core.Path.{_≡_};
 ghost use Prim.Native.Nat.{_+_, _*_, _≤_};
 ghost use lib.ListN.{length};

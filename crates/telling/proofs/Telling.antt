@@ -1,4 +1,4 @@
--- The laws of tests: what a test made of others tells. Assumes nothing.
+-- What a test made of others tells, and tests that tell the same. Assumes nothing.
 use mathlib.Core.Bool.{Bool, true, false, not, _&&_, _||_, or-false, or-assoc}
 use mathlib.Core.Path.{_≡_, refl, sym, ap, ap₂, subst, _∙_}
 use mathlib.Core.Logic.{_⊎_, inl, inr, ⊎-elim, _↔_}
@@ -7,7 +7,7 @@ use native.Mathlib.Omega.{arith}
 use native.Mathlib.Decide.{decLt}
 use native.Mathlib.Nat.{eq-or-lt-of-le, zero-add, add-zero, add-suc, suc-add}
 use lib.Dec.{T, leb, ltb, eqb, leb→le, le→leb, ltb→lt, lt→ltb, eqb→eq, eqb-refl}
-use Rattle.telling.specs.Tests.{Tells, some, every}
+use Rattle.telling.specs.Tells.{Tells, some, every}
 
 pub is-map : {b : Bool} {P Q : Type 0} → Tells b P → (P → Q) → (Q → P) → Tells b Q
 is-map h f g = record { to = λ t. f (h .to t); from = λ q. h .from (g q) }
@@ -129,6 +129,10 @@ same-test {a = true} {b = true} h k = refl
 same-test {a = true} {b = false} h k = absurd (k .from (h .to tt))
 same-test {a = false} {b = true} h k = absurd (h .from (k .to tt))
 same-test {a = false} {b = false} h k = refl
+
+-- two comparisons that hold together are equal
+pub leb-same : (a b c d : ℕ) → (a ≤ b → c ≤ d) → (c ≤ d → a ≤ b) → leb a b ≡ leb c d
+leb-same a b c d f g = same-test (is-map (is-le a b) f g) (is-le c d)
 
 -- one position more is asked
 some-more : (f : ℕ → Bool) (lo n : ℕ) → (some f lo n || f (lo + n)) ≡ some f lo (suc n)

@@ -1,1 +1,1 @@
-// Nothing runs here: tests that antt computes, and the statements that they decide, for the definitions and proofs of every crate above.
+// Nothing runs here: tests that antt computes and the statements that they tell, for the definitions and the proofs of every crate above.

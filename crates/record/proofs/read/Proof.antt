@@ -12,7 +12,7 @@ use Rattle.refusal.specs.declared.Verdict.{Verdict}
 use Rattle.refusal.specs.First.{Answers}
 use Rattle.refusal.specs.Computed.{firstCase, accepted}
 use Rattle.refusal.specs.Heading.{count, headingRefusals}
-use Rattle.refusal.proofs.Deciding.{skip, stop, through}
+use Rattle.refusal.proofs.Cases.{skip, stop, through}
 use Rattle.refusal.proofs.Headings.{heading-stops, heading-passes, heading-long}
 use Rattle.record.specs.declared.Reading.{Reading}
 use Rattle.record.specs.Record.{samples, Reads}

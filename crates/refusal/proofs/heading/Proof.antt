@@ -10,7 +10,7 @@ use lib.ListN.{length, drop}
 use Rattle.refusal.specs.First.{Answers}
 use Rattle.refusal.specs.Heading.{headingRefusals}
 use Rattle.refusal.specs.Computed.{firstCase, refused, accepted, headingCases, isMarked, isVersionOne}
-use Rattle.refusal.proofs.Deciding.{skip, stop, through}
+use Rattle.refusal.proofs.Cases.{skip, stop, through}
 use Rattle.refusal.proofs.Headings.{heading-answers}
 use Rattle.refusal.proofs.heading.Statement.{statement}
 use Rattle.refusal.proofs.heading.Tie as tie

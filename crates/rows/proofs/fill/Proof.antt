@@ -3,7 +3,7 @@ use mathlib.Core.Path.{_≡_, ap, _∙_, refl}
 use Prim.Native.Nat.{_≤_, _-_}
 use native.Mathlib.Omega.{arith}
 use lib.ListN.{length}
-use Rattle.table.specs.Operators.{nodeOf}
+use Rattle.nodes.specs.Operators.{nodeOf}
 use Rattle.rows.specs.Rows.{filled}
 use Rattle.rows.proofs.Filling.{filled-zero, filled-step}
 use borrow.Author.Needs.{needs}

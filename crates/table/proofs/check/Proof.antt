@@ -11,7 +11,7 @@ use Rattle.refusal.specs.declared.Verdict.{Verdict}
 use Rattle.refusal.specs.First.{Answers}
 use Rattle.refusal.specs.Computed.{firstCase, refused}
 use Rattle.refusal.specs.Heading.{count, headingRefusals}
-use Rattle.refusal.proofs.Deciding.{skip, stop}
+use Rattle.refusal.proofs.Cases.{skip, stop}
 use Rattle.refusal.proofs.Headings.{heading-stops, heading-passes, heading-long}
 use Rattle.table.specs.Check.{Checks}
 use Rattle.table.specs.Computed.{nodeCases, laterCases, cases, checked}

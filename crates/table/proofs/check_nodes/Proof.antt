@@ -7,10 +7,11 @@ use mathlib.Core.List.{List}
 use Prim.Native.Nat.{ℕ, _-_, _<_, _≤_}
 use lib.ListN.{drop}
 use Rattle.refusal.specs.Computed.{first, firstCase, refused, accepted}
-use Rattle.refusal.proofs.Deciding.{skip, stop, through}
-use Rattle.table.specs.Nodes.{sortAt}
-use Rattle.table.specs.Flags.{hollow}
-use Rattle.table.specs.Computed.{unfit, astray, nodeCases}
+use Rattle.refusal.proofs.Cases.{skip, stop, through}
+use Rattle.nodes.specs.Nodes.{sortAt}
+use Rattle.faults.specs.Flags.{hollow}
+use Rattle.faults.specs.Computed.{unfit, astray}
+use Rattle.table.specs.Computed.{nodeCases}
 use Rattle.table.proofs.check_nodes.Statement.{statement}
 use Rattle.table.proofs.check_nodes.Tie as tie
 

@@ -2,7 +2,7 @@
 use borrow.Author.Needs.{needs}
 use native.Mathlib.Omega.{arith}
 use mathlib.Core.Path.{_≡_}
-use Rattle.table.specs.Operators.{bytesOf, booleanBytes, sequenceBytes, propertyBytes}
+use Rattle.nodes.specs.Operators.{bytesOf, booleanBytes, sequenceBytes, propertyBytes}
 use Rattle.rewrite.proofs.Making.{not-below}
 use Rattle.rewrite.proofs.blocks.next_node.Statement.{statement}
 use Rattle.rewrite.proofs.blocks.next_node.Tie as tie

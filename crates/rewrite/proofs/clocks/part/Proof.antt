@@ -4,8 +4,8 @@ use borrow.Author.Tests.{lt-ltb, le-ltb}
 use native.Mathlib.Omega.{arith}
 use mathlib.Core.Path.{_≡_}
 use Prim.Native.Nat.{ℕ, _<_, _≤_}
-use Rattle.table.specs.Operators.{sequence}
-use Rattle.table.specs.Computed.{namedBy}
+use Rattle.nodes.specs.Operators.{sequence}
+use Rattle.nodes.specs.Computed.{namedBy}
 use Rattle.rewrite.specs.Computed.{partOf}
 use Rattle.rewrite.proofs.clocks.part.Statement.{statement}
 use Rattle.rewrite.proofs.clocks.part.Tie as tie

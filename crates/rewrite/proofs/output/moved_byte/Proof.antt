@@ -7,8 +7,8 @@ use mathlib.Core.List.{List}
 use Prim.Native.Nat.{ℕ}
 use lib.Dec.{eqb}
 use lib.ListN.{getD}
-use Rattle.table.specs.Operators.{none}
-use Rattle.table.specs.Computed.{namedBy}
+use Rattle.nodes.specs.Operators.{none}
+use Rattle.nodes.specs.Computed.{namedBy}
 use Rattle.rewrite.proofs.output.moved_byte.Statement.{statement}
 use Rattle.rewrite.proofs.output.moved_byte.Tie as tie
 

@@ -9,11 +9,11 @@ use lib.Dec.{eqb}
 use lib.ListN.{length, getD, take}
 use lib.Seq.{length-take-le, take-all}
 use Rattle.refusal.specs.Heading.{count}
-use Rattle.table.specs.declared.operators.Row.{Row}
-use Rattle.table.specs.declared.nodes.Raw.{Raw}
-use Rattle.table.specs.Operators.{none, rowOf}
-use Rattle.table.specs.Nodes.{rawAt}
-use Rattle.table.specs.Computed.{namedBy}
+use Rattle.nodes.specs.declared.operators.Row.{Row}
+use Rattle.nodes.specs.declared.Raw.{Raw}
+use Rattle.nodes.specs.Operators.{none, rowOf}
+use Rattle.nodes.specs.Nodes.{rawAt}
+use Rattle.nodes.specs.Computed.{namedBy}
 use Rattle.rewrite.specs.Numbers.{lengthUnder, lengthOf, startOf}
 use Rattle.rewrite.specs.Tables.{fourBytes, encoded, blockOf}
 use Rattle.rewrite.specs.Computed.{refOf, clockBy, Numbered, blank, kindBlock, put}

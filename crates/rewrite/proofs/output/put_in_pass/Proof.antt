@@ -10,9 +10,9 @@ use Prim.Native.Nat.{ℕ, _+_, _*_, _<_, _≤_}
 use lib.Dec.{eqb}
 use lib.ListN.{length}
 use Rattle.refusal.specs.Heading.{count}
-use Rattle.table.specs.Operators.{boolean}
-use Rattle.table.specs.Nodes.{sortAt}
-use Rattle.table.specs.Trees.{Ref}
+use Rattle.nodes.specs.Operators.{boolean}
+use Rattle.nodes.specs.Nodes.{sortAt}
+use Rattle.nodes.specs.Clocks.{Ref}
 use Rattle.rewrite.specs.Numbers.{isBoolean, lengthOf, newCount, taken, startOf}
 use Rattle.rewrite.specs.Tables.{encoded, blockOf}
 use Rattle.rewrite.specs.Computed.{ofPass, passStart, put}

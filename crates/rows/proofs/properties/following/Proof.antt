@@ -5,7 +5,7 @@ use Prim.Native.Nat.{ℕ, _+_, _-_, _≤_}
 use native.Mathlib.Omega.{arith}
 use lib.Dec.{ltb}
 use borrow.Author.Needs.{needs}
-use Rattle.telling.specs.Tests.{some}
+use Rattle.telling.specs.Tells.{some}
 use Rattle.positions.specs.Member.{has, Is}
 use Rattle.rows.specs.Bits.{lastLetter}
 use Rattle.rows.proofs.Loops.{taken-none, taken-more, asked-upto, within-as}

@@ -4,7 +4,7 @@ use Prim.Native.Nat.{_+_, _*_, _-_, _≤_}
 use native.Mathlib.Omega.{arith}
 use lib.ListN.{take}
 use borrow.Author.Needs.{needs}
-use Rattle.table.specs.declared.nodes.SequenceOp.the-variants.{Empty}
+use Rattle.nodes.specs.declared.SequenceOp.the-variants.{Empty}
 use Rattle.rows.specs.Shares.{share}
 use Rattle.rows.specs.Rows.{EndsOf, Stored}
 use Rattle.rows.proofs.Laying.{stored-none, stored-up}

@@ -5,7 +5,7 @@ use native.Mathlib.Omega.{arith}
 use lib.ListN.{take}
 use lib.Seq.{length-take-le}
 use borrow.Author.Needs.{needs}
-use Rattle.table.specs.declared.nodes.SequenceOp.the-variants.{Letter}
+use Rattle.nodes.specs.declared.SequenceOp.the-variants.{Letter}
 use Rattle.rows.specs.Shares.{share}
 use Rattle.rows.specs.Rows.{EndsOf, Stored}
 use Rattle.rows.proofs.Laying.{row-taken, stored-none, stored-up}

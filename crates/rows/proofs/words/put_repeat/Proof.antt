@@ -4,7 +4,7 @@ use Prim.Native.Nat.{_+_, _≤_}
 use native.Mathlib.Omega.{arith}
 use lib.Seq.{length-take-le}
 use borrow.Author.Needs.{needs}
-use Rattle.table.specs.declared.nodes.SequenceOp.the-variants.{Repeat}
+use Rattle.nodes.specs.declared.SequenceOp.the-variants.{Repeat}
 use Rattle.rows.specs.Rows.{Made}
 use Rattle.rows.proofs.Laying.{row-taken}
 use Rattle.rows.proofs.Making.{none-made, below-made, own-long, own-made, forward-made, one-made, through-made}

@@ -2,7 +2,7 @@
 use Prim.Native.Nat.{_+_, _≤_}
 use native.Mathlib.Omega.{arith}
 use borrow.Author.Needs.{needs}
-use Rattle.table.specs.declared.nodes.SequenceOp.the-variants.{Then}
+use Rattle.nodes.specs.declared.SequenceOp.the-variants.{Then}
 use Rattle.rows.specs.Rows.{Made}
 use Rattle.rows.proofs.Laying.{row-taken}
 use Rattle.rows.proofs.Making.{none-made, below-made, one-made, through-made}

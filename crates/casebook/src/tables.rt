@@ -1,0 +1,61 @@
+// A table in the bytes that were lent, its nodes as document 01 writes them: 3(1,0) has operator 3, x 1 and y 0.
+use crate::output::put_bytes;
+use crate::print::put;
+use crate::print::put_number;
+use nodes::Raw;
+use nodes::node_at;
+use nodes::operators::NONE;
+use nodes::operators::row_of;
+ghost use Prim.Native.Nat.{_+_, _*_, _≤_};
+ghost use lib.ListN.{length};
+
+fn put_more(byte: u8) {
+    put(b",");
+    put_number(byte as u64);
+}
+
+// y and the fourth byte. The 0 that an operator asks for is left out, and any other byte is printed, so that it is seen.
+fn put_later(v: Raw) {
+    let row = row_of(v.op);
+    if (v.y != 0) | (v.fourth != 0) | (row.y != NONE) {
+        put_more(v.y);
+    }
+    if v.fourth != 0 {
+        put_more(v.fourth);
+    }
+}
+
+fn put_node(v: Raw) {
+    put(b" ");
+    put_number(v.op as u64);
+    put(b"(");
+    put_number(v.x as u64);
+    put_later(v);
+    put(b")");
+}
+
+fn put_nodes(out: &[u8], count: usize)
+    requires { ⌜ 4 * count + 6 ≤ length (now out) ⌝ }
+{
+    let mut k = 0;
+    while k < count {
+        put_node(node_at(out, k));
+        k += 1;
+    }
+}
+
+// The heading, so many nodes, and the bytes after them. Where the bytes are too few for so many, no byte is taken for a node.
+pub fn put_table(out: &[u8], count: usize) {
+    if count > 120 {
+        put_bytes(out, 0);
+        return;
+    }
+    let end = 4 * count + 6;
+    if end > out.len() {
+        put_bytes(out, 0);
+        return;
+    }
+    put_bytes(&out[0..6], 0);
+    put_nodes(out, count);
+    put_bytes(out, end);
+}

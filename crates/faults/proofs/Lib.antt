@@ -1,0 +1,3 @@
+-- Laws that the proofs of this crate and of `table` cite.
+pub mod Counting
+pub mod Keeping

@@ -1,0 +1,7 @@
+-- Laws of the nodes, for the proofs of this crate and of the crates above.
+pub mod Lookup
+pub mod Coded
+pub mod Shapes
+pub mod Placing
+pub mod Built
+pub mod Clocking
