@@ -24,7 +24,7 @@ use Rattle.meaning.specs.Rewriting.{rewS, rewP}
 use Rattle.meaning.proofs.Theorems as Meaning
 use Rattle.nodes.specs.Operators.{sequence, property}
 use Rattle.nodes.specs.Nodes.{root}
-use Rattle.nodes.specs.Clocks.{Ref}
+use Rattle.nodes.specs.NodeClock.{Ref}
 use Rattle.table.specs.Trees.{RootS, RootP}
 use Rattle.table.specs.Check as Check
 use Rattle.table.proofs.Reading.{uniqueS, uniqueP}
@@ -33,9 +33,9 @@ use Rattle.table.proofs.Checking.{sound, checks-given}
 use Rattle.table.proofs.Standing.{sequence-in}
 use Rattle.table.proofs.Within.{not-both}
 use Rattle.rewrite.proofs.Clockless.{same-count}
-use Rattle.rewrite.specs.Clocks.{Clocks}
-use Rattle.rewrite.specs.Numbers.{newCount}
-use Rattle.rewrite.specs.Tables.{newTable}
+use Rattle.clocks.specs.Clocks.{Clocks}
+use Rattle.numbers.specs.Numbers.{newCount}
+use Rattle.writing.specs.Tables.{newTable}
 use Rattle.rewrite.specs.Rewrites.{tooMany}
 use Rattle.rows.specs.Shares.{share, longest, topWord, wordIn, bitIn, wordOf}
 use Rattle.judge.specs.declared.Judgement.{Judgement}

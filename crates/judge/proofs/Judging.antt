@@ -26,7 +26,7 @@ use Rattle.meaning.specs.Rewriting.{rewS, rewP}
 use Rattle.meaning.proofs.Leveling.{level-from}
 use Rattle.nodes.specs.Operators.{sequence, property}
 use Rattle.nodes.specs.Nodes.{sortAt, root}
-use Rattle.nodes.specs.Clocks.{Ref}
+use Rattle.nodes.specs.NodeClock.{Ref}
 use Rattle.table.specs.Trees.{RootS, RootP}
 use Rattle.table.specs.Check as Check
 use Rattle.table.specs.Check.{Checks}
@@ -34,9 +34,9 @@ use Rattle.nodes.proofs.Built.{Built}
 use Rattle.table.proofs.Standing.{sequence-in, property-in}
 use Rattle.table.proofs.Checking.{sound, sorts}
 use Rattle.rewrite.specs.declared.Rewriting.{Rewriting}
-use Rattle.rewrite.specs.Clocks.{Clocks}
-use Rattle.rewrite.specs.Numbers.{newCount}
-use Rattle.rewrite.specs.Tables.{newTable}
+use Rattle.clocks.specs.Clocks.{Clocks}
+use Rattle.numbers.specs.Numbers.{newCount}
+use Rattle.writing.specs.Tables.{newTable}
 use Rattle.rewrite.specs.Rewrites.{OfClocks, tooMany}
 use Rattle.rewrite.specs.Keeps.{Keeps}
 use Rattle.rows.specs.Shares.{share, longest, topWord, wordIn, bitIn, HasRow}

@@ -23,7 +23,7 @@ use Rattle.table.specs.Check.{Checks}
 use Rattle.nodes.proofs.Coded.{coded-as}
 use Rattle.nodes.proofs.Shapes.{Formed, Suits, down}
 use Rattle.table.proofs.Checking.{sound}
-use Rattle.rewrite.specs.Numbers.{isClock}
+use Rattle.clocks.specs.Clocks.{isClock}
 use Rattle.rows.specs.Shares.{share, longest, wordIn, HasRow}
 use Rattle.rows.specs.Rows.{rowsOf, filled, Ready}
 use Rattle.judge.specs.Rows.{BooleanRow, SequenceRow, PropertyRow, Filled}

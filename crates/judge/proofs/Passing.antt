@@ -10,17 +10,17 @@ use Rattle.refusal.specs.Heading.{count}
 use Rattle.refusal.specs.Computed.{accepted}
 use Rattle.refusal.proofs.Given.{none-given, not-given-append}
 use Rattle.nodes.specs.Operators.{sequence, property}
-use Rattle.nodes.specs.Clocks.{Ref}
+use Rattle.nodes.specs.NodeClock.{Ref}
 use Rattle.table.specs.Check as Check
 use Rattle.table.specs.Check.{Checks}
 use Rattle.nodes.proofs.Built.{Built}
 use Rattle.table.proofs.Checking.{checks-none, sound}
-use Rattle.rewrite.specs.Clocks.{Clocks}
-use Rattle.rewrite.specs.Numbers.{newCount}
-use Rattle.rewrite.specs.Tables.{newTable}
+use Rattle.clocks.specs.Clocks.{Clocks}
+use Rattle.numbers.specs.Numbers.{newCount}
+use Rattle.writing.specs.Tables.{newTable}
 use Rattle.rewrite.specs.Rewrites.{tooMany}
 use Rattle.rewrite.specs.Keeps.{Keeps}
-use Rattle.rewrite.proofs.Timing.{clocks-unique}
+use Rattle.clocks.proofs.Timing.{clocks-unique}
 use Rattle.rewrite.proofs.Theorems.{rewriting-keeps}
 use Rattle.rewrite.proofs.Accepting.{count-new}
 use Rattle.judge.specs.Refusals.{wrongRoot, tooLong, startAbove, tooSmall, judgeRefusals, endsRefusals}

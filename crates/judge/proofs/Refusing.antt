@@ -22,11 +22,11 @@ use Rattle.table.specs.Check.{Checks}
 use Rattle.nodes.proofs.Built.{Built}
 use Rattle.table.proofs.Checking.{checks-none, not-of-table, sound}
 use Rattle.rewrite.specs.declared.Rewriting.{Rewriting}
-use Rattle.rewrite.specs.Numbers.{newCount}
-use Rattle.rewrite.specs.Tables.{newTable}
+use Rattle.numbers.specs.Numbers.{newCount}
+use Rattle.writing.specs.Tables.{newTable}
 use Rattle.rewrite.specs.Rewrites.{OfClocks, tooMany, Rewrites}
 use Rattle.rewrite.specs.Rewrites as Rewrites
-use Rattle.rewrite.proofs.Timing.{clocks-unique}
+use Rattle.clocks.proofs.Timing.{clocks-unique}
 use Rattle.rewrite.proofs.Deciding.{few-new}
 use Rattle.rewrite.proofs.Theorems.{output-is}
 use Rattle.rows.specs.Shares.{share, longest}

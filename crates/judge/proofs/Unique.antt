@@ -13,13 +13,13 @@ use Rattle.meaning.specs.Syntax.{Seq, Prop}
 use Rattle.meaning.specs.Meaning.{Level, Ends}
 use Rattle.meaning.specs.Signal.{signal}
 use Rattle.meaning.proofs.Theorems.{level-unique}
-use Rattle.nodes.specs.Clocks.{Ref}
+use Rattle.nodes.specs.NodeClock.{Ref}
 use Rattle.table.specs.Check as Check
 use Rattle.table.proofs.Checking.{table-singles}
 use Rattle.table.proofs.Reading.{uniqueS, uniqueP}
 use Rattle.table.proofs.Theorems.{accepted-root}
-use Rattle.rewrite.specs.Clocks.{Clocks}
-use Rattle.rewrite.specs.Tables.{newTable}
+use Rattle.clocks.specs.Clocks.{Clocks}
+use Rattle.writing.specs.Tables.{newTable}
 use Rattle.rewrite.specs.Rewrites.{OfClocks, tooMany}
 use Rattle.judge.specs.declared.Judgement.{Judgement}
 use Rattle.judge.specs.declared.MatchEnds.{MatchEnds}

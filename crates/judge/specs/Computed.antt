@@ -11,8 +11,8 @@ use Rattle.meaning.specs.Levels.{levelOf}
 use Rattle.nodes.specs.Nodes.{rawAt}
 use Rattle.table.specs.Check as Check
 use Rattle.rewrite.specs.declared.Rewriting.{Rewriting}
-use Rattle.rewrite.specs.Numbers.{newCount}
-use Rattle.rewrite.specs.Tables.{newTable}
+use Rattle.numbers.specs.Numbers.{newCount}
+use Rattle.writing.specs.Tables.{newTable}
 use Rattle.rewrite.specs.Rewrites.{OfClocks, tooMany}
 use Rattle.rows.specs.Shares.{longest, bitIn, HasRow}
 use Rattle.rows.specs.Bits.{starts}

@@ -11,7 +11,7 @@ use Rattle.meaning.specs.Syntax.{Seq, Prop}
 use Rattle.meaning.specs.Meaning.{Level, Ends}
 use Rattle.meaning.specs.Signal.{signal}
 use Rattle.table.specs.Trees.{RootS, RootP}
-use Rattle.rewrite.specs.Tables.{newTable}
+use Rattle.writing.specs.Tables.{newTable}
 use Rattle.rewrite.specs.Rewrites.{OfClocks}
 use Rattle.judge.specs.declared.Judgement.{Judgement}
 use Rattle.judge.specs.declared.MatchEnds.{MatchEnds}

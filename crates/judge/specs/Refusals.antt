@@ -7,7 +7,7 @@ use Rattle.refusal.specs.First.{Refusal, when}
 use Rattle.nodes.specs.Operators.{sequence, property}
 use Rattle.nodes.specs.Nodes.{sortAt, root}
 use Rattle.table.specs.Check as Check
-use Rattle.rewrite.specs.Numbers.{newCount}
+use Rattle.numbers.specs.Numbers.{newCount}
 use Rattle.rewrite.specs.Rewrites.{OfClocks, tooMany}
 use Rattle.rows.specs.Shares.{share, longest}
 

@@ -18,7 +18,7 @@ use Rattle.meaning.specs.Signal.{signal}
 use Rattle.nodes.specs.Operators.{sequence}
 use Rattle.table.specs.Check as Check
 use Rattle.rewrite.specs.Rewrites.{tooMany}
-use Rattle.rewrite.specs.Computed.{put}
+use Rattle.writing.specs.Computed.{put}
 use Rattle.record.specs.declared.Reading.{Reading}
 use Rattle.record.specs.Record as Record
 use Rattle.record.specs.Record.{Reads}

@@ -12,8 +12,8 @@ use lib.Seq.{take-suc, take-length, sets-eq, length-take-le}
 use native.Mathlib.Numerals.{add-one}
 use Rattle.telling.proofs.Telling.{decide, is-lt}
 use Rattle.refusal.specs.declared.Verdict.{Verdict}
-use Rattle.rewrite.specs.Computed.{put}
-use Rattle.rewrite.proofs.Putting.{put-none, put-put}
+use Rattle.writing.specs.Computed.{put}
+use Rattle.writing.proofs.Putting.{put-none, put-put}
 use Rattle.line.specs.Text.{codes, digit, decimalIn, decimal, yesNo, levelLine, refusedLine}
 use Rattle.line.specs.Computed.{Puts}
 

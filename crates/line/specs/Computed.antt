@@ -3,7 +3,7 @@ use mathlib.Core.Path.{_≡_}
 use mathlib.Core.List.{List}
 use Prim.Native.Nat.{ℕ, _+_}
 use lib.ListN.{length}
-use Rattle.rewrite.specs.Computed.{put}
+use Rattle.writing.specs.Computed.{put}
 
 -- the text t is put into d from `at` on, which leaves d′; r is the place after it
 pub record Puts (d : List ℕ) (at : ℕ) (t : List ℕ) (r : ℕ) (d′ : List ℕ) : Type 0 where

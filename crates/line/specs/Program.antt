@@ -14,7 +14,7 @@ use Rattle.meaning.specs.Signal.{signal}
 use Rattle.nodes.specs.Operators.{sequence}
 use Rattle.table.specs.Trees.{RootP}
 use Rattle.table.specs.Check as Check
-use Rattle.rewrite.specs.Tables.{newTable}
+use Rattle.writing.specs.Tables.{newTable}
 use Rattle.rewrite.specs.Rewrites.{OfClocks, tooMany}
 use Rattle.record.specs.Record as Record
 use Rattle.rows.specs.Shares.{longest}

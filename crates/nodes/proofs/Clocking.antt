@@ -12,7 +12,7 @@ use Rattle.nodes.specs.declared.SequenceOp.the-variants.{Letter, Then, F
 use Rattle.nodes.specs.declared.PropertyOp.the-variants.{Strong, Weak, Negated, AnyOf, BothOf, Implies, Next, Until, Ticked}
 use Rattle.nodes.specs.Operators.{boolean, sequence}
 use Rattle.nodes.specs.Nodes.{sortAt, nodeAt, root}
-use Rattle.nodes.specs.Clocks.{Ref, freeR, onR, Part, handed, ClockOf, c-root, c-part}
+use Rattle.nodes.specs.NodeClock.{Ref, freeR, onR, Part, handed, ClockOf, c-root, c-part}
 use Rattle.nodes.proofs.Built.{Built}
 use Rattle.nodes.proofs.Shapes.{down}
 use Rattle.nodes.proofs.Placing.{part-below, part-sort, whole-sort, above, one-above}

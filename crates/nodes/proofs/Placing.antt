@@ -12,7 +12,7 @@ use Rattle.telling.proofs.Telling.{is-and, is-or, is-le, side}
 use Rattle.nodes.specs.declared.operators.Row.{Row}
 use Rattle.nodes.specs.Operators.{none, sequence, property, operators, rowOf}
 use Rattle.nodes.specs.Nodes.{rawAt, rowAt, sortAt, hitsOf, placesOf, usesOf, WellFormed}
-use Rattle.nodes.specs.Clocks.{Part, at-x, at-y}
+use Rattle.nodes.specs.NodeClock.{Part, at-x, at-y}
 use Rattle.nodes.proofs.Lookup.{row-passes}
 
 -- ---- a place that is hit holds the node

@@ -14,7 +14,7 @@ use Rattle.nodes.specs.declared.SequenceOp.the-variants.{Letter, Then, F
 use Rattle.nodes.specs.declared.PropertyOp.the-variants.{Strong, Weak, Negated, AnyOf, BothOf, Implies, Next, Until, Ticked}
 use Rattle.nodes.specs.Operators.{none, boolean, sequence, property, operators, unknown, lookup, rowOf, nodeOf, bytesOf, booleanBytes, sequenceBytes, propertyBytes}
 use Rattle.nodes.specs.Nodes.{rawAt, rowAt, sortAt, nodeAt, WellFormed}
-use Rattle.nodes.specs.Clocks.{Part, at-x, at-y}
+use Rattle.nodes.specs.NodeClock.{Part, at-x, at-y}
 use Rattle.nodes.proofs.Lookup.{of-lookup, same-line}
 use Rattle.nodes.proofs.Coded.{coded-at}
 

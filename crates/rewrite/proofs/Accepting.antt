@@ -16,7 +16,7 @@ use Rattle.meaning.specs.Rewriting.{rewS, rewP}
 use Rattle.meaning.proofs.Rewriting.{accepted-rew}
 use Rattle.nodes.specs.Operators.{boolean, sequence}
 use Rattle.nodes.specs.Nodes.{rowAt, sortAt, nodeAt, usesOf, root}
-use Rattle.nodes.specs.Clocks.{Ref}
+use Rattle.nodes.specs.NodeClock.{Ref}
 use Rattle.table.specs.Trees.{SequenceAt, PropertyAt, c-free}
 use Rattle.table.specs.Check.{Checks}
 use Rattle.table.specs.Computed.{checked}
@@ -25,12 +25,13 @@ use Rattle.table.proofs.Standing.{sequence-in, property-in}
 use Rattle.table.proofs.Checking.{Sound, checks, nine-or-none, sorts}
 use Rattle.table.proofs.Topping.{accepted-at}
 use Rattle.table.proofs.Theorems.{refused-sequence, refused-root}
-use Rattle.rewrite.specs.Clocks.{Clocks}
-use Rattle.rewrite.specs.Numbers.{isBoolean, isClock, lengthOf, newCount, numberOf}
-use Rattle.rewrite.specs.Tables.{newTable}
-use Rattle.rewrite.proofs.Timing.{root-clock}
-use Rattle.rewrite.proofs.Numbering.{none-under, start-fits, block-long}
-use Rattle.rewrite.proofs.Cells.{length-table, last-at, stands-sort}
+use Rattle.clocks.specs.Clocks.{Clocks, isClock}
+use Rattle.clocks.proofs.Timing.{root-clock}
+use Rattle.numbers.specs.Numbers.{isBoolean, lengthOf, newCount, numberOf}
+use Rattle.numbers.proofs.Numbering.{none-under, start-fits}
+use Rattle.writing.specs.Tables.{newTable}
+use Rattle.writing.proofs.Lengths.{block-long, length-table}
+use Rattle.rewrite.proofs.Cells.{last-at, stands-sort}
 use Rattle.rewrite.proofs.Ordering.{is-other, before, stands-in, stands-past, found}
 use Rattle.rewrite.proofs.Trees.{sequence-stands, property-stands}
 use Rattle.rewrite.proofs.Forming.{new-fit}
@@ -135,11 +136,11 @@ module _ (s : List ℕ) (sound : Sound s) (clock : ℕ → Ref) (right : Clocks 
 
   pub sequence-root : (r : Seq ℕ) → SequenceAt (nodeAt s) (root s) r → SequenceAt (nodeAt t) (root t) (rewS free r)
   sequence-root r d =
-      subst (λ (k : ℕ). SequenceAt (nodeAt t) k (rewS free r)) (sym root-at) (sequence-stands s ok clock right d root-in (root-clock s ok clock right) c-free)
+      subst (λ (k : ℕ). SequenceAt (nodeAt t) k (rewS free r)) (sym root-at) (sequence-stands s ok clock right d (root-in, root-clock s ok clock right) c-free)
 
   pub property-root : (P : Prop ℕ) → PropertyAt (nodeAt s) (root s) P → PropertyAt (nodeAt t) (root t) (rewP free P)
   property-root P d =
-      subst (λ (k : ℕ). PropertyAt (nodeAt t) k (rewP free P)) (sym root-at) (property-stands s ok clock right d root-in (root-clock s ok clock right) c-free)
+      subst (λ (k : ℕ). PropertyAt (nodeAt t) k (rewP free P)) (sym root-at) (property-stands s ok clock right d (root-in, root-clock s ok clock right) c-free)
 
   -- ---- the new table is accepted
 

@@ -8,28 +8,25 @@ use mathlib.Core.Bool.{Bool, true, false, not, cond, true≢false}
 use mathlib.Core.List.{List, [], _∷_, _++_}
 use Prim.Native.Nat.{ℕ, zero, suc, _+_, _*_, _-_, _<_, _≤_}
 use lib.Dec.{eqb}
-use lib.ListN.{length, getD, length-append, List·getD-append}
+use lib.ListN.{length, getD, List·getD-append}
 use lib.Seq.{getD-append-add}
 use Rattle.refusal.specs.Heading.{count}
 use Rattle.nodes.specs.declared.Raw.{Raw}
 use Rattle.nodes.specs.Operators.{operators, lookup, rowOf, bytesOf, booleanBytes, sequenceBytes, propertyBytes}
 use Rattle.nodes.specs.Nodes.{rawAt, rowAt, sortAt, WellFormed}
-use Rattle.nodes.specs.Clocks.{Ref}
-use Rattle.rewrite.specs.Numbers.{sum, isBoolean, isOther, isClock, lengthOf, newCount, taken, startOf, numberOf}
-use Rattle.rewrite.specs.Blocks.{movedNode, blockUnder}
-use Rattle.rewrite.specs.Tables.{heading, fourBytes, encoded, blockOf, laid, newNodes, newTable}
-use Rattle.rewrite.specs.Computed.{blank}
-use Rattle.rewrite.proofs.Sums.{sum-le}
-use Rattle.rewrite.proofs.Viewing.{single-is, letter-is, next-is, until-is, View, of-none, of-single, of-letter, of-next, of-until, view}
-use Rattle.rewrite.proofs.Timing.{clock-row, operand-below}
-use Rattle.rewrite.proofs.Numbering.{some-under, count-split, start-fits, block-long, laid-long, stands-last, stands-operand}
+use Rattle.nodes.specs.NodeClock.{Ref}
+use Rattle.clocks.specs.Clocks.{isClock}
+use Rattle.clocks.proofs.Timing.{clock-row, operand-below}
+use Rattle.numbers.specs.Numbers.{sum, isBoolean, isOther, lengthOf, newCount, taken, startOf, numberOf}
+use Rattle.numbers.proofs.Sums.{sum-le}
+use Rattle.numbers.proofs.Numbering.{some-under, start-fits, stands-last, stands-operand}
+use Rattle.blocks.specs.Blocks.{movedNode, blockUnder}
+use Rattle.blocks.specs.Computed.{blank}
+use Rattle.blocks.proofs.Viewing.{single-is, letter-is, next-is, until-is, View, of-none, of-single, of-letter, of-next, of-until, view}
+use Rattle.writing.specs.Tables.{heading, fourBytes, encoded, blockOf, laid, newNodes, newTable}
+use Rattle.writing.proofs.Lengths.{length-new, block-long, laid-long}
 
 -- ---- bytes
-
-pub length-encoded : (rs : List Raw) → length (encoded rs) ≡ 4 * length rs
-unfolding encoded
-length-encoded [] = refl
-length-encoded (r ∷ rs) = let h = length-encoded rs in omega arith
 
 -- byte j of node q
 encoded-at : (rs : List Raw) (q j : ℕ) → j < 4 → q < length rs → getD (encoded rs) (4 * q + j) 0 ≡ getD (fourBytes (getD rs q blank)) j 0
@@ -76,23 +73,9 @@ past : {A : Type 0} (p q : List A) (n i : ℕ) (d : A) → length p ≡ n → ge
 past p q n i d h = rw (← h) (getD-append-add p q i d)
 
 module _ (s : List ℕ) (clock : ℕ → Ref) (fit : (k : ℕ) → k < count s → WellFormed s k) where
-  pub length-new : length (newNodes s clock) ≡ newCount s clock
-  length-new =
-      length-append (laid s clock (isBoolean s) (count s)) (laid s clock (isOther s) (count s))
-      ∙ (let p = laid-long s clock fit (isBoolean s) (count s) (le-refl _) in
-      let q = laid-long s clock fit (isOther s) (count s) (le-refl _) in
-      let e = count-split s clock (count s) in
-      omega arith)
-
-  pub length-table : length (newTable s clock) ≡ 4 * newCount s clock + 6
-  unfolding newTable
-  length-table =
-      length-append (heading (newCount s clock)) (encoded (newNodes s clock))
-      ∙ (let a = length-encoded (newNodes s clock) in let b = length-new in omega arith)
-
   pub raw-at : (q : ℕ) → q < newCount s clock → rawAt (newTable s clock) q ≡ getD (newNodes s clock) q blank
   unfolding newTable
-  raw-at q h = raw-of (newCount s clock) (newNodes s clock) q (let e = length-new in omega arith)
+  raw-at q h = raw-of (newCount s clock) (newNodes s clock) q (let e = length-new s clock fit in omega arith)
 
   module _ (test : ℕ → Bool) (k i : ℕ) (passes : test k ≡ true) (l : i < length (blockOf s clock k)) where
     -- what k gives ends before what a later node gives

@@ -7,13 +7,13 @@ use mathlib.Core.List.{List}
 use Prim.Native.Nat.{ℕ, zero, suc, _<_, min}
 use Rattle.refusal.specs.Heading.{count}
 use Rattle.nodes.specs.Nodes.{rowAt}
-use Rattle.nodes.specs.Clocks.{Ref, freeR, ClockOf, c-root, c-part}
+use Rattle.nodes.specs.NodeClock.{Ref, freeR, ClockOf, c-root, c-part}
 use Rattle.nodes.proofs.Built.{Built}
 use Rattle.nodes.proofs.Clocking.{clock-inside}
-use Rattle.rewrite.specs.Clocks.{ClockIs, from-above, none-above, Clocks}
-use Rattle.rewrite.specs.Numbers.{sum, isClock, lengthUnder, lengthOf, newCount}
-use Rattle.rewrite.proofs.Sums.{sum-same}
-use Rattle.rewrite.proofs.Timing.{handed-by-row}
+use Rattle.clocks.specs.Clocks.{ClockIs, from-above, none-above, Clocks, isClock}
+use Rattle.clocks.proofs.Timing.{handed-by-row}
+use Rattle.numbers.specs.Numbers.{sum, lengthUnder, lengthOf, newCount}
+use Rattle.numbers.proofs.Sums.{sum-same}
 
 ones : (n : ℕ) → sum (λ k. 1) n ≡ n
 unfolding sum

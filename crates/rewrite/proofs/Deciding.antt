@@ -15,7 +15,7 @@ use Rattle.refusal.specs.Computed.{Case, at0, firstCase, accepted, headingCases
 use Rattle.refusal.proofs.Cases.{refuses, before, after}
 use Rattle.refusal.proofs.Deciding.{Decides, answers, decided-when, decides-append}
 use Rattle.refusal.proofs.Given.{none-given, not-given-append}
-use Rattle.nodes.specs.Clocks.{Ref}
+use Rattle.nodes.specs.NodeClock.{Ref}
 use Rattle.table.specs.Check as Check
 use Rattle.table.specs.Check.{Checks}
 use Rattle.table.specs.Computed as Table
@@ -23,11 +23,11 @@ use Rattle.table.specs.Computed.{nodeCases, laterCases, checked}
 use Rattle.nodes.proofs.Built.{Built}
 use Rattle.table.proofs.Checking as Checking
 use Rattle.table.proofs.Checking.{checks, checks-only, checks-none, checks-given, sound}
+use Rattle.clocks.specs.Clocks.{Clocks}
+use Rattle.clocks.proofs.Timing.{clocks-exist, clocks-unique}
+use Rattle.numbers.specs.Numbers.{newCount}
 use Rattle.rewrite.specs.declared.Rewriting.{Rewriting}
-use Rattle.rewrite.specs.Clocks.{Clocks}
-use Rattle.rewrite.specs.Numbers.{newCount}
 use Rattle.rewrite.specs.Rewrites.{OfClocks, refusals, Rewrites}
-use Rattle.rewrite.proofs.Timing.{clocks-exist, clocks-unique}
 
 -- ---- the table, accepted
 

@@ -9,7 +9,7 @@ use lib.Dec.{eqb}
 use Rattle.refusal.specs.Computed.{accepted, firstOf, firstCase, headingCases, isMarked, isVersionOne}
 use Rattle.nodes.specs.Operators.{operators, lookup, rowOf, nodeOf, bytesOf, booleanBytes, sequenceBytes, propertyBytes}
 use Rattle.nodes.specs.Nodes.{sortAt, hitsOf, usesOf}
-use Rattle.nodes.specs.Clocks.{Ref, freeR, onR, at-x, at-y, c-root, c-part}
+use Rattle.nodes.specs.NodeClock.{Ref, freeR, onR, at-x, at-y, c-root, c-part}
 use Rattle.faults.specs.Flags.{sequenceTops, nodeTops, topsBelow, hollowProperty, hollowNode, hollow}
 use Rattle.table.specs.Check.{Checks}
 use Rattle.faults.specs.Computed.{operandFits, nodeFits, astray}
@@ -17,11 +17,11 @@ use Rattle.table.specs.Computed.{nodeCases, laterCases, checked}
 use Rattle.nodes.proofs.Built.{Built}
 use Rattle.table.proofs.Checking.{checks, sound}
 use Rattle.nodes.proofs.Clocking.{clock-inside}
-use Rattle.rewrite.specs.Clocks.{from-above, none-above, Clocks}
-use Rattle.rewrite.specs.Numbers.{sum, isBoolean, isClock, lengthUnder, startOf, numberIn, numberOf}
-use Rattle.rewrite.specs.Blocks.{underBlock, moved, movedNode, movedBlock, blockUnder}
-use Rattle.rewrite.specs.Tables.{encoded, laid, newTable}
-use Rattle.rewrite.proofs.Timing.{clocked-sort, clocks-unique}
+use Rattle.clocks.specs.Clocks.{from-above, none-above, Clocks, isClock}
+use Rattle.clocks.proofs.Timing.{clocked-sort, clocks-unique}
+use Rattle.numbers.specs.Numbers.{sum, isBoolean, lengthUnder, startOf, numberIn, numberOf}
+use Rattle.blocks.specs.Blocks.{underBlock, moved, movedNode, movedBlock, blockUnder}
+use Rattle.writing.specs.Tables.{encoded, laid, newTable}
 
 abbrev table : ℕ → List ℕ → List ℕ
 table n nodes = 0x53 ∷ 0x56 ∷ 0x54 ∷ 1 ∷ 0 ∷ n ∷ nodes

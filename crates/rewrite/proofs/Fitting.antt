@@ -12,8 +12,8 @@ use Rattle.telling.proofs.Telling.{is-and, is-not, is-eq}
 use Rattle.nodes.specs.declared.Raw.{Raw}
 use Rattle.nodes.specs.Operators.{none, boolean, property, operators, lookup, rowOf, bytes, bytesOf, booleanBytes, sequenceBytes, propertyBytes}
 use Rattle.nodes.specs.Nodes.{sortAt, Operand}
-use Rattle.rewrite.specs.Blocks.{letterBlock, nextBlock, untilBlock}
-use Rattle.rewrite.specs.Computed.{blank}
+use Rattle.blocks.specs.Blocks.{letterBlock, nextBlock, untilBlock}
+use Rattle.blocks.specs.Computed.{blank}
 
 -- ---- what a list of new nodes has, node by node
 

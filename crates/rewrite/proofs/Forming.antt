@@ -14,16 +14,16 @@ use Rattle.refusal.specs.Heading.{count}
 use Rattle.nodes.specs.declared.Raw.{Raw}
 use Rattle.nodes.specs.Operators.{none, boolean, sequence, property, operators, lookup, rowOf}
 use Rattle.nodes.specs.Nodes.{rawAt, rowAt, sortAt, Operand, WellFormed}
-use Rattle.nodes.specs.Clocks.{Ref, onR}
+use Rattle.nodes.specs.NodeClock.{Ref, onR}
 use Rattle.nodes.proofs.Built.{Built}
 use Rattle.nodes.proofs.Placing.{fine-row}
-use Rattle.rewrite.specs.Clocks.{Clocks}
-use Rattle.rewrite.specs.Numbers.{isBoolean, isClock, newCount, startOf, numberOf}
-use Rattle.rewrite.specs.Blocks.{moved, movedNode}
-use Rattle.rewrite.specs.Tables.{blockOf, newTable}
-use Rattle.rewrite.specs.Computed.{blank}
-use Rattle.rewrite.proofs.Timing.{clock-boolean}
-use Rattle.rewrite.proofs.Viewing.{none-is, single-is, letter-is, next-is, until-is, View, of-none, of-single, of-letter, of-next, of-until, view}
+use Rattle.clocks.specs.Clocks.{Clocks, isClock}
+use Rattle.clocks.proofs.Timing.{clock-boolean}
+use Rattle.numbers.specs.Numbers.{isBoolean, newCount, startOf, numberOf}
+use Rattle.blocks.specs.Blocks.{moved, movedNode}
+use Rattle.blocks.specs.Computed.{blank}
+use Rattle.blocks.proofs.Viewing.{none-is, single-is, letter-is, next-is, until-is, View, of-none, of-single, of-letter, of-next, of-until, view}
+use Rattle.writing.specs.Tables.{blockOf, newTable}
 use Rattle.rewrite.proofs.Cells.{cell-at, cell-sort, stands-sort}
 use Rattle.rewrite.proofs.Ordering.{other-is, boolean-before, other-before, found}
 use Rattle.rewrite.proofs.Fitting.{AllFrom, all-at, Right, Lower, lower, Sorted, letter-right, next-right, until-right}

@@ -2,11 +2,7 @@
 pub mod Theorems
 pub mod Unique
 pub mod Examples
--- Clocks, blocks and new numbers, and where each new node stands.
-pub mod Sums
-pub mod Timing
-pub mod Viewing
-pub mod Numbering
+-- The nodes of the new table, and where each stands.
 pub mod Cells
 pub mod Ordering
 -- A table that has no clock node.
@@ -22,9 +18,5 @@ pub mod Tiling
 pub mod Hits
 pub mod Places
 pub mod Accepting
--- The code: its loops, its blocks, its bytes and its refusals.
-pub mod HandingDown
-pub mod Counts
-pub mod Making
-pub mod Putting
+-- The code: its refusals.
 pub mod Deciding

@@ -12,12 +12,14 @@ use Rattle.telling.proofs.Telling.{side}
 use Rattle.refusal.specs.Heading.{count}
 use Rattle.nodes.specs.Operators.{boolean, sequence}
 use Rattle.nodes.specs.Nodes.{rawAt, rowAt, sortAt, WellFormed}
-use Rattle.nodes.specs.Clocks.{Ref}
-use Rattle.rewrite.specs.Numbers.{sum, isBoolean, isOther, isClock, lengthOf, newCount, taken, startOf, numberOf}
-use Rattle.rewrite.specs.Tables.{blockOf}
-use Rattle.rewrite.proofs.Sums.{sum-le, sum-in}
-use Rattle.rewrite.proofs.Timing.{clock-row, operand-below}
-use Rattle.rewrite.proofs.Numbering.{count-split, block-long, stands-operand}
+use Rattle.nodes.specs.NodeClock.{Ref}
+use Rattle.clocks.specs.Clocks.{isClock}
+use Rattle.clocks.proofs.Timing.{clock-row, operand-below}
+use Rattle.numbers.specs.Numbers.{sum, isBoolean, isOther, lengthOf, newCount, taken, startOf, numberOf}
+use Rattle.numbers.proofs.Sums.{sum-le, sum-in}
+use Rattle.numbers.proofs.Numbering.{count-split, stands-operand}
+use Rattle.writing.specs.Tables.{blockOf}
+use Rattle.writing.proofs.Lengths.{block-long}
 use Rattle.rewrite.proofs.Cells.{last-at}
 
 -- the test of sorts, and what it says

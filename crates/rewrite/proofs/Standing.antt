@@ -6,22 +6,29 @@ use mathlib.Core.Logic.{inl, inr}
 use mathlib.Core.Bool.{false}
 use mathlib.Core.List.{List, map}
 use Prim.Native.Nat.{ℕ, _+_, _-_, _<_}
-use lib.Dec.{eqb}
+use lib.Dec.{T, eqb, ltb, ltb→lt}
 use lib.ListN.{length, getD, length-map, List·getD-map}
 use Rattle.refusal.specs.Heading.{count}
 use Rattle.nodes.specs.declared.Raw.{Raw}
 use Rattle.nodes.specs.declared.Node.{Node}
 use Rattle.nodes.specs.Operators.{rowOf, nodeOf, bytesOf}
 use Rattle.nodes.specs.Nodes.{rawAt, nodeAt, WellFormed}
-use Rattle.nodes.specs.Clocks.{Ref, freeR, onR}
+use Rattle.nodes.specs.NodeClock.{Ref, freeR, onR}
 use Rattle.nodes.proofs.Coded.{decoded}
 use Rattle.nodes.proofs.Coded.{coded-as}
-use Rattle.rewrite.specs.Numbers.{isClock, startOf, numberOf}
-use Rattle.rewrite.specs.Blocks.{movedNode, blockUnder}
-use Rattle.rewrite.specs.Tables.{blockOf, newTable}
-use Rattle.rewrite.specs.Computed.{blankNode, blank}
-use Rattle.rewrite.proofs.Viewing.{listed, Single, single-is}
+use Rattle.clocks.specs.Clocks.{isClock}
+use Rattle.numbers.specs.Numbers.{startOf, numberOf}
+use Rattle.blocks.specs.Blocks.{movedNode, blockUnder}
+use Rattle.blocks.specs.Computed.{blankNode, blank}
+use Rattle.blocks.proofs.Viewing.{listed, Single, single-is}
+use Rattle.writing.specs.Tables.{blockOf, newTable}
 use Rattle.rewrite.proofs.Cells.{cell-at, last-at}
+
+-- the nodes us stand in the new table as the block of node k
+pub record Block (s : List ℕ) (clock : ℕ → Ref) (k : ℕ) (us : List Node) : Type 0 where
+  pub cell : (i : ℕ) → T (ltb i (length us)) → nodeAt (newTable s clock) (startOf s clock k + i) ≡ getD us i blankNode
+  pub first : T (ltb 0 (length us)) → nodeAt (newTable s clock) (startOf s clock k) ≡ getD us 0 blankNode
+  pub last : numberOf s clock k ≡ startOf s clock k + (length us - 1)
 
 module _ (s : List ℕ) (clock : ℕ → Ref) (fit : (k : ℕ) → k < count s → WellFormed s k) (k : ℕ) (h : k < count s) {v : Node} (e : nodeAt s k ≡ v) where
   abbrev ν : ℕ → ℕ
@@ -63,13 +70,14 @@ module _ (s : List ℕ) (clock : ℕ → Ref) (fit : (k : ℕ) → k < count s �
     long : length (blockOf s clock k) ≡ length us
     long = ap length block-is ∙ length-map us bytesOf
 
-    pub block-cell : (i : ℕ) → i < length us → N (startOf s clock k + i) ≡ getD us i blankNode
-    block-cell i l =
+    cells : (i : ℕ) → i < length us → N (startOf s clock k + i) ≡ getD us i blankNode
+    cells i l =
         ap nodeOf (cell-at s clock fit k i h (let e = long in omega arith) ∙ ap (λ (rs : List Raw). getD rs i blank) block-is ∙ List·getD-map bytesOf us i blankNode)
         ∙ decoded (getD us i blankNode)
 
-    pub block-first : 0 < length us → N (startOf s clock k) ≡ getD us 0 blankNode
-    block-first l = ap N (sym (add-zero (startOf s clock k))) ∙ block-cell 0 l
-
-    pub block-last : ν k ≡ startOf s clock k + (length us - 1)
-    block-last = last-at s clock fit k h (no-clock z) .1 ∙ (let e = long in omega arith)
+    pub block : Block s clock k us
+    block = record {
+      cell = λ i l. cells i (ltb→lt i (length us) l);
+      first = λ l. ap N (sym (add-zero (startOf s clock k))) ∙ cells 0 (ltb→lt 0 (length us) l);
+      last = last-at s clock fit k h (no-clock z) .1 ∙ (let e = long in omega arith);
+    }

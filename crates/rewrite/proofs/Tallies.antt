@@ -10,9 +10,10 @@ use Rattle.refusal.specs.Heading.{count}
 use Rattle.nodes.specs.Operators.{none, sequence}
 use Rattle.nodes.specs.Nodes.{rawAt, rowAt, sortAt, root, WellFormed, hitsOf, placesOf, usesOf}
 use Rattle.nodes.proofs.Built.{Built}
-use Rattle.rewrite.specs.Numbers.{sum, isClock}
-use Rattle.rewrite.proofs.Sums.{sum-zero, sum-same, sum-plus, sum-split, sum-swap, sum-one}
-use Rattle.rewrite.proofs.Timing.{clock-row}
+use Rattle.clocks.specs.Clocks.{isClock}
+use Rattle.clocks.proofs.Timing.{clock-row}
+use Rattle.numbers.specs.Numbers.{sum}
+use Rattle.numbers.proofs.Sums.{sum-zero, sum-same, sum-plus, sum-split, sum-swap, sum-one}
 
 -- 1 where the test passes
 abbrev pub ind : Bool → ℕ

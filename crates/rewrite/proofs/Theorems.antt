@@ -17,20 +17,20 @@ use Rattle.meaning.specs.Signal.{signal}
 use Rattle.meaning.specs.Rewriting.{rewS, rewP}
 use Rattle.meaning.proofs.Rewriting.{match-rew, sat-rew, level-rew}
 use Rattle.nodes.specs.Nodes.{rawAt, sortAt, WellFormed}
-use Rattle.nodes.specs.Clocks.{Ref}
+use Rattle.nodes.specs.NodeClock.{Ref}
 use Rattle.table.specs.Trees.{RootS, RootP}
 use Rattle.table.specs.Check.{Checks}
 use Rattle.table.proofs.Reading.{uniqueS, uniqueP}
 use Rattle.table.proofs.Checking.{Sound, sound}
+use Rattle.clocks.specs.Clocks.{Clocks, isClock}
+use Rattle.clocks.proofs.Timing.{clock-op}
+use Rattle.numbers.specs.Numbers.{newCount}
+use Rattle.numbers.proofs.Numbering.{count-bound}
+use Rattle.writing.specs.Tables.{newTable}
+use Rattle.writing.proofs.Lengths.{length-table}
 use Rattle.rewrite.specs.declared.Rewriting.{Rewriting}
-use Rattle.rewrite.specs.Clocks.{Clocks}
-use Rattle.rewrite.specs.Numbers.{isClock, newCount}
-use Rattle.rewrite.specs.Tables.{newTable}
 use Rattle.rewrite.specs.Rewrites.{Rewrites}
 use Rattle.rewrite.specs.Keeps.{Keeps}
-use Rattle.rewrite.proofs.Timing.{clock-op}
-use Rattle.rewrite.proofs.Numbering.{count-bound}
-use Rattle.rewrite.proofs.Cells.{length-table}
 use Rattle.rewrite.proofs.Deciding.{table-accepted, few-new}
 use Rattle.rewrite.proofs.Forming.{new-clockless}
 use Rattle.rewrite.proofs.Accepting.{count-new, new-checks, sequence-root, property-root}

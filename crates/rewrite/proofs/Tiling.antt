@@ -11,10 +11,10 @@ use Prim.Native.Nat.{ℕ, zero, suc, _+_, _<_, _≤_}
 use lib.Dec.{eqb, leb, ltb}
 use Rattle.telling.proofs.Telling.{side}
 use Rattle.refusal.specs.Heading.{count}
-use Rattle.nodes.specs.Clocks.{Ref}
-use Rattle.rewrite.specs.Numbers.{sum, isBoolean, isOther, lengthOf, newCount, taken, startOf}
-use Rattle.rewrite.proofs.Sums.{sum-split}
-use Rattle.rewrite.proofs.Numbering.{count-split}
+use Rattle.nodes.specs.NodeClock.{Ref}
+use Rattle.numbers.specs.Numbers.{sum, isBoolean, isOther, lengthOf, newCount, taken, startOf}
+use Rattle.numbers.proofs.Sums.{sum-split}
+use Rattle.numbers.proofs.Numbering.{count-split}
 use Rattle.rewrite.proofs.Tallies.{ind}
 
 -- q is in the stretch of l numbers from a on

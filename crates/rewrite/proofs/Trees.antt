@@ -2,28 +2,31 @@
 -- Assumes nothing.
 use native.Mathlib.Omega.{arith}
 use mathlib.Core.Path.{_≡_, refl, _∙_, ap}
-use mathlib.Core.List.{List}
+use mathlib.Core.Bool.{false}
+use mathlib.Core.List.{List, map}
 use Prim.Native.Nat.{ℕ, _<_}
-use lib.Dec.{eqb}
+use lib.Dec as Dec
+use lib.Dec.{eqb, leb, leb→le}
 use Rattle.refusal.specs.Heading.{count}
 use Rattle.meaning.specs.Syntax.{Bexp, Seq, Prop, Clock}
 use Rattle.meaning.specs.Rewriting.{rewS, rewP}
 use Rattle.nodes.specs.declared.Raw.{Raw}
 use Rattle.nodes.specs.declared.Node.{Node}
-use Rattle.nodes.specs.Operators.{operators, lookup, rowOf, nodeOf, bytesOf, booleanBytes, sequenceBytes, propertyBytes}
+use Rattle.nodes.specs.Operators.{sequence, operators, lookup, rowOf, nodeOf, bytesOf, booleanBytes, sequenceBytes, propertyBytes}
 use Rattle.nodes.specs.Nodes.{rawAt, nodeAt}
-use Rattle.nodes.specs.Clocks.{Ref, Part, handed}
+use Rattle.nodes.specs.NodeClock.{Ref, freeR, onR, handed}
 use Rattle.table.specs.Trees.{BooleanAt, b-const, b-sig, b-not, b-and, b-or, SequenceAt, s-one, s-cat, s-fuse, s-alt, s-empty, s-plus, s-clock, PropertyAt, p-strong, p-weak, p-neg, p-either, p-both, p-imp, p-next, p-until, p-clock, ClockAt, c-free, c-on}
 use Rattle.nodes.proofs.Built.{Built}
 use Rattle.nodes.proofs.Coded.{coded-as}
 use Rattle.nodes.proofs.Shapes.{Formed, Suits, down}
-use Rattle.rewrite.specs.Clocks.{Clocks}
-use Rattle.rewrite.specs.Numbers.{isClock, startOf, numberOf}
-use Rattle.rewrite.specs.Blocks.{letterBlock, nextBlock, untilBlock, underBlock, moved, movedNode, movedBlock, blockUnder}
-use Rattle.rewrite.specs.Tables.{newTable}
-use Rattle.rewrite.proofs.Timing.{part-clock, clock-boolean}
-use Rattle.rewrite.proofs.Numbering.{stands-operand}
-use Rattle.rewrite.proofs.Standing.{copy-else, copy-free, block-cell, block-first, block-last}
+use Rattle.clocks.specs.Clocks.{Clocks, isClock}
+use Rattle.clocks.proofs.Timing.{part-clock, clock-boolean}
+use Rattle.numbers.specs.Numbers.{startOf, numberOf}
+use Rattle.numbers.proofs.Numbering.{stands-operand}
+use Rattle.blocks.specs.Blocks.{letterBlock, nextBlock, untilBlock, underBlock, moved, movedNode, movedBlock, blockUnder}
+use Rattle.blocks.proofs.Viewing.{listed}
+use Rattle.writing.specs.Tables.{newTable}
+use Rattle.rewrite.proofs.Standing.{Block, copy-else, copy-free, block}
 
 module _ (s : List ℕ) (ok : Built s) (clock : ℕ → Ref) (right : Clocks s clock) where
   abbrev n : ℕ
@@ -38,14 +41,35 @@ module _ (s : List ℕ) (ok : Built s) (clock : ℕ → Ref) (right : Clocks s c
   abbrev ν : ℕ → ℕ
   ν = numberOf s clock
 
-  -- ---- the operands of a node
+  -- ---- a node and its operands
 
   goes : {k : ℕ} {v : Node} → k < n → T k ≡ v → Formed (Suits s k) v
   goes {k} l e = down s k (ok .fit k l) e
 
+  inside : {k x sort : ℕ} → k < n → Suits s k sort x → x < n
+  inside l g = let b = g .0 in omega arith
+
+  -- node k has the clock ρ
+  abbrev Has : ℕ → Ref → Type 0
+  Has k ρ = (k < n) × (clock k ≡ ρ)
+
   -- a part has the clock that the node hands down
-  hands : {k x : ℕ} {v : Node} {ρ : Ref} → k < n → T k ≡ v → clock k ≡ ρ → Part s k x → clock x ≡ handed v ρ
-  hands l e q a = part-clock s ok clock right l a ∙ (λ i. handed (e i) (q i))
+  part : {k x sort : ℕ} {v : Node} {ρ : Ref} → Has k ρ → T k ≡ v → Suits s k sort x → Dec.T (leb sequence sort) → Has x (handed v ρ)
+  part {sort = sort} h e g l = (inside (h .0) g, part-clock s ok clock right (h .0) (g .2 (leb→le sequence sort l)) ∙ (λ i. handed (e i) (h .1 i)))
+
+  -- ---- what stands for a node
+
+  -- one node
+  copied : {k : ℕ} {v : Node} → k < n → T k ≡ v → eqb (rowOf (bytesOf v .op) .block) 0 ≡ false → listed (bytesOf v .op) ≡ false → N (ν k) ≡ nodeOf (movedNode ν (bytesOf v))
+  copied {k} l e z u = copy-else s clock (ok .fit) k l e z u
+
+  free-copied : {k : ℕ} {v : Node} → Has k freeR → T k ≡ v → eqb (rowOf (bytesOf v .op) .block) 0 ≡ false → N (ν k) ≡ nodeOf (movedNode ν (bytesOf v))
+  free-copied {k} h e z = copy-free s clock (ok .fit) k (h .0) e (h .1) z
+
+  -- a block
+  blocked : {k c : ℕ} {v : Node} → Has k (onR c) → T k ≡ v → (us : List Node) → eqb (rowOf (bytesOf v .op) .block) 0 ≡ false
+      → blockUnder ν (onR c) (startOf s clock k) (bytesOf v) ≡ map bytesOf us → Block s clock k us
+  blocked {k} {c} h e us z b = block s clock (ok .fit) k (h .0) e c (h .1) us z b
 
   -- an operand of a clock node stands for it
   drops : {k : ℕ} {v : Node} → k < n → T k ≡ v → rowOf (bytesOf v .op) .block ≡ 0 → ν k ≡ ν (bytesOf v .y)
@@ -58,106 +82,66 @@ module _ (s : List ℕ) (ok : Built s) (clock : ℕ → Ref) (right : Clocks s c
 
   boolean-stands : {k : ℕ} {b : Bexp ℕ} → BooleanAt T k b → k < n → BooleanAt N (ν k) b
   unfolding moved movedNode rowOf nodeOf lookup operators bytesOf booleanBytes
-  boolean-stands {k} (b-const e) l = b-const (copy-else s clock (ok .fit) k l e refl refl)
-  boolean-stands {k} (b-sig e) l = b-sig (copy-else s clock (ok .fit) k l e refl refl)
-  boolean-stands {k} (b-not e d) l = let g = goes l e in b-not (copy-else s clock (ok .fit) k l e refl refl) (boolean-stands d (omega arith))
-  boolean-stands {k} (b-and e d f) l =
-      let (g, j) = goes l e in b-and (copy-else s clock (ok .fit) k l e refl refl) (boolean-stands d (omega arith)) (boolean-stands f (omega arith))
-  boolean-stands {k} (b-or e d f) l =
-      let (g, j) = goes l e in b-or (copy-else s clock (ok .fit) k l e refl refl) (boolean-stands d (omega arith)) (boolean-stands f (omega arith))
+  boolean-stands (b-const e) l = b-const (copied l e refl refl)
+  boolean-stands (b-sig e) l = b-sig (copied l e refl refl)
+  boolean-stands (b-not e d) l = b-not (copied l e refl refl) (boolean-stands d (inside l (goes l e)))
+  boolean-stands (b-and e d f) l = let (g, j) = goes l e in b-and (copied l e refl refl) (boolean-stands d (inside l g)) (boolean-stands f (inside l j))
+  boolean-stands (b-or e d f) l = let (g, j) = goes l e in b-or (copied l e refl refl) (boolean-stands d (inside l g)) (boolean-stands f (inside l j))
+
+  -- the condition of a node's clock
+  condition : {k c : ℕ} {b : Bexp ℕ} → Has k (onR c) → BooleanAt T c b → BooleanAt N (ν c) b
+  condition {k} {c} h d = boolean-stands d (clock-boolean s ok clock right k c (h .1) .0)
 
   -- ---- sequences
 
-  pub sequence-stands : {k : ℕ} {r : Seq ℕ} {ρ : Ref} {κ : Clock ℕ} → SequenceAt T k r → k < n → clock k ≡ ρ → ClockAt T ρ κ → SequenceAt N (ν k) (rewS κ r)
+  pub sequence-stands : {k : ℕ} {r : Seq ℕ} {ρ : Ref} {κ : Clock ℕ} → SequenceAt T k r → Has k ρ → ClockAt T ρ κ → SequenceAt N (ν k) (rewS κ r)
   unfolding rewS moved movedNode rowOf nodeOf lookup operators bytesOf sequenceBytes movedBlock underBlock blockUnder
-  sequence-stands {k} (s-one e d) l q c-free = let g = goes l e in s-one (copy-free s clock (ok .fit) k l e q refl) (boolean-stands d (omega arith))
-  sequence-stands {k} (s-one {x = x} e d) l q (c-on {c = c} b) =
-      let g = goes l e in
-      let at = startOf s clock k in
-      let us = letterBlock at (ν c) (ν x) in
-      let a = block-cell s clock (ok .fit) k l e c q us refl refl in
-      let first = block-first s clock (ok .fit) k l e c q us refl refl (omega arith) in
-      let o = block-last s clock (ok .fit) k l e c q us refl refl in
-      let f = boolean-stands b (clock-boolean s ok clock right k c q .0) in
-      let z = b-not first f in
-      rw o
-      (s-cat (a 8 (omega arith)) (s-alt (a 6 (omega arith)) (s-empty (a 3 (omega arith)) (s-one (a 2 (omega arith)) z)) (s-plus (a 5 (omega arith)) (s-one (a 4 (omega arith)) z)))
-      (s-one (a 7 (omega arith)) (b-and (a 1 (omega arith)) f (boolean-stands d (omega arith)))))
-  sequence-stands {k} (s-cat e d f) l q c =
-      let (g, j) = goes l e in
-      s-cat (copy-else s clock (ok .fit) k l e refl refl)
-      (sequence-stands d (omega arith) (hands l e q (g .2 (omega arith))) c) (sequence-stands f (omega arith) (hands l e q (j .2 (omega arith))) c)
-  sequence-stands {k} (s-fuse e d f) l q c =
-      let (g, j) = goes l e in
-      s-fuse (copy-else s clock (ok .fit) k l e refl refl)
-      (sequence-stands d (omega arith) (hands l e q (g .2 (omega arith))) c) (sequence-stands f (omega arith) (hands l e q (j .2 (omega arith))) c)
-  sequence-stands {k} (s-alt e d f) l q c =
-      let (g, j) = goes l e in
-      s-alt (copy-else s clock (ok .fit) k l e refl refl)
-      (sequence-stands d (omega arith) (hands l e q (g .2 (omega arith))) c) (sequence-stands f (omega arith) (hands l e q (j .2 (omega arith))) c)
-  sequence-stands {k} (s-empty e d) l q c =
-      let g = goes l e in s-empty (copy-else s clock (ok .fit) k l e refl refl) (sequence-stands d (omega arith) (hands l e q (g .2 (omega arith))) c)
-  sequence-stands {k} (s-plus e d) l q c =
-      let g = goes l e in s-plus (copy-else s clock (ok .fit) k l e refl refl) (sequence-stands d (omega arith) (hands l e q (g .2 (omega arith))) c)
-  sequence-stands (s-clock e b d) l q c =
-      let (g, j) = goes l e in rw (drops l e refl) (sequence-stands d (omega arith) (hands l e q (j .2 (omega arith))) (c-on b))
+  sequence-stands (s-one e d) h c-free = s-one (free-copied h e refl) (boolean-stands d (inside (h .0) (goes (h .0) e)))
+  sequence-stands {k} (s-one {x = x} e d) h (c-on {c = c} b) =
+      let w = blocked h e (letterBlock (startOf s clock k) (ν c) (ν x)) refl refl in
+      let f = condition h b in
+      let z = b-not (w .first tt) f in
+      let waits = s-alt (w .cell 6 tt) (s-empty (w .cell 3 tt) (s-one (w .cell 2 tt) z)) (s-plus (w .cell 5 tt) (s-one (w .cell 4 tt) z)) in
+      rw (w .last) (s-cat (w .cell 8 tt) waits (s-one (w .cell 7 tt) (b-and (w .cell 1 tt) f (boolean-stands d (inside (h .0) (goes (h .0) e))))))
+  sequence-stands (s-cat e d f) h c =
+      let (g, j) = goes (h .0) e in s-cat (copied (h .0) e refl refl) (sequence-stands d (part h e g tt) c) (sequence-stands f (part h e j tt) c)
+  sequence-stands (s-fuse e d f) h c =
+      let (g, j) = goes (h .0) e in s-fuse (copied (h .0) e refl refl) (sequence-stands d (part h e g tt) c) (sequence-stands f (part h e j tt) c)
+  sequence-stands (s-alt e d f) h c =
+      let (g, j) = goes (h .0) e in s-alt (copied (h .0) e refl refl) (sequence-stands d (part h e g tt) c) (sequence-stands f (part h e j tt) c)
+  sequence-stands (s-empty e d) h c = s-empty (copied (h .0) e refl refl) (sequence-stands d (part h e (goes (h .0) e) tt) c)
+  sequence-stands (s-plus e d) h c = s-plus (copied (h .0) e refl refl) (sequence-stands d (part h e (goes (h .0) e) tt) c)
+  sequence-stands (s-clock e b d) h c = rw (drops (h .0) e refl) (sequence-stands d (part h e (goes (h .0) e .1) tt) (c-on b))
 
   -- ---- properties
 
-  pub property-stands : {k : ℕ} {P : Prop ℕ} {ρ : Ref} {κ : Clock ℕ} → PropertyAt T k P → k < n → clock k ≡ ρ → ClockAt T ρ κ → PropertyAt N (ν k) (rewP κ P)
+  pub property-stands : {k : ℕ} {P : Prop ℕ} {ρ : Ref} {κ : Clock ℕ} → PropertyAt T k P → Has k ρ → ClockAt T ρ κ → PropertyAt N (ν k) (rewP κ P)
   unfolding rewP moved movedNode rowOf nodeOf lookup operators bytesOf sequenceBytes propertyBytes movedBlock underBlock blockUnder
-  property-stands {k} (p-strong e d) l q c =
-      let g = goes l e in p-strong (copy-else s clock (ok .fit) k l e refl refl) (sequence-stands d (omega arith) (hands l e q (g .2 (omega arith))) c)
-  property-stands {k} (p-weak e d) l q c =
-      let g = goes l e in p-weak (copy-else s clock (ok .fit) k l e refl refl) (sequence-stands d (omega arith) (hands l e q (g .2 (omega arith))) c)
-  property-stands {k} (p-neg e d) l q c =
-      let g = goes l e in p-neg (copy-else s clock (ok .fit) k l e refl refl) (property-stands d (omega arith) (hands l e q (g .2 (omega arith))) c)
-  property-stands {k} (p-either e d f) l q c =
-      let (g, j) = goes l e in
-      p-either (copy-else s clock (ok .fit) k l e refl refl)
-      (property-stands d (omega arith) (hands l e q (g .2 (omega arith))) c) (property-stands f (omega arith) (hands l e q (j .2 (omega arith))) c)
-  property-stands {k} (p-both e d f) l q c =
-      let (g, j) = goes l e in
-      p-both (copy-else s clock (ok .fit) k l e refl refl)
-      (property-stands d (omega arith) (hands l e q (g .2 (omega arith))) c) (property-stands f (omega arith) (hands l e q (j .2 (omega arith))) c)
-  property-stands {k} (p-imp e d f) l q c =
-      let (g, j) = goes l e in
-      p-imp (copy-else s clock (ok .fit) k l e refl refl)
-      (sequence-stands d (omega arith) (hands l e q (g .2 (omega arith))) c) (property-stands f (omega arith) (hands l e q (j .2 (omega arith))) c)
-  property-stands {k} (p-next e d) l q c-free =
-      let g = goes l e in
-      p-next (copy-free s clock (ok .fit) k l e q refl) (property-stands d (omega arith) (hands l e q (g .2 (omega arith))) c-free)
-  property-stands {k} (p-next {x = x} e d) l q (c-on {c = c} b) =
-      let g = goes l e in
-      let at = startOf s clock k in
-      let us = nextBlock at (ν c) (ν x) in
-      let a = block-cell s clock (ok .fit) k l e c q us refl refl in
-      let first = block-first s clock (ok .fit) k l e c q us refl refl (omega arith) in
-      let o = block-last s clock (ok .fit) k l e c q us refl refl in
-      let f = boolean-stands b (clock-boolean s ok clock right k c q .0) in
-      let z = b-not first f in
-      let inner =
-      p-until (a 6 (omega arith)) (p-strong (a 2 (omega arith)) (s-one (a 1 (omega arith)) z))
-      (p-both (a 5 (omega arith)) (p-strong (a 4 (omega arith)) (s-one (a 3 (omega arith)) f)) (property-stands d (omega arith) (hands l e q (g .2 (omega arith))) (c-on b))) in
-      rw o
-      (p-until (a 13 (omega arith)) (p-strong (a 12 (omega arith)) (s-one (a 11 (omega arith)) z))
-      (p-both (a 10 (omega arith)) (p-strong (a 9 (omega arith)) (s-one (a 8 (omega arith)) f)) (p-next (a 7 (omega arith)) inner)))
-  property-stands {k} (p-until e d f) l q c-free =
-      let (g, j) = goes l e in
-      p-until (copy-free s clock (ok .fit) k l e q refl)
-      (property-stands d (omega arith) (hands l e q (g .2 (omega arith))) c-free) (property-stands f (omega arith) (hands l e q (j .2 (omega arith))) c-free)
-  property-stands {k} (p-until {x = x} {y = y} e d h) l q (c-on {c = c} b) =
-      let (g, j) = goes l e in
-      let at = startOf s clock k in
-      let us = untilBlock at (ν c) (ν x) (ν y) in
-      let a = block-cell s clock (ok .fit) k l e c q us refl refl in
-      let first = block-first s clock (ok .fit) k l e c q us refl refl (omega arith) in
-      let o = block-last s clock (ok .fit) k l e c q us refl refl in
-      let f = boolean-stands b (clock-boolean s ok clock right k c q .0) in
-      rw o
-      (p-until (a 8 (omega arith))
-      (p-neg (a 4 (omega arith))
-      (p-both (a 3 (omega arith)) (p-strong (a 1 (omega arith)) (s-one first f)) (p-neg (a 2 (omega arith)) (property-stands d (omega arith) (hands l e q (g .2 (omega arith))) (c-on b)))))
-      (p-both (a 7 (omega arith)) (p-strong (a 6 (omega arith)) (s-one (a 5 (omega arith)) f)) (property-stands h (omega arith) (hands l e q (j .2 (omega arith))) (c-on b))))
-  property-stands (p-clock e b d) l q c =
-      let (g, j) = goes l e in rw (drops l e refl) (property-stands d (omega arith) (hands l e q (j .2 (omega arith))) (c-on b))
+  property-stands (p-strong e d) h c = p-strong (copied (h .0) e refl refl) (sequence-stands d (part h e (goes (h .0) e) tt) c)
+  property-stands (p-weak e d) h c = p-weak (copied (h .0) e refl refl) (sequence-stands d (part h e (goes (h .0) e) tt) c)
+  property-stands (p-neg e d) h c = p-neg (copied (h .0) e refl refl) (property-stands d (part h e (goes (h .0) e) tt) c)
+  property-stands (p-either e d f) h c =
+      let (g, j) = goes (h .0) e in p-either (copied (h .0) e refl refl) (property-stands d (part h e g tt) c) (property-stands f (part h e j tt) c)
+  property-stands (p-both e d f) h c =
+      let (g, j) = goes (h .0) e in p-both (copied (h .0) e refl refl) (property-stands d (part h e g tt) c) (property-stands f (part h e j tt) c)
+  property-stands (p-imp e d f) h c =
+      let (g, j) = goes (h .0) e in p-imp (copied (h .0) e refl refl) (sequence-stands d (part h e g tt) c) (property-stands f (part h e j tt) c)
+  property-stands (p-next e d) h c-free = p-next (free-copied h e refl) (property-stands d (part h e (goes (h .0) e) tt) c-free)
+  property-stands {k} (p-next {x = x} e d) h (c-on {c = c} b) =
+      let w = blocked h e (nextBlock (startOf s clock k) (ν c) (ν x)) refl refl in
+      let f = condition h b in
+      let z = b-not (w .first tt) f in
+      let now = p-both (w .cell 5 tt) (p-strong (w .cell 4 tt) (s-one (w .cell 3 tt) f)) (property-stands d (part h e (goes (h .0) e) tt) (c-on b)) in
+      let later = p-next (w .cell 7 tt) (p-until (w .cell 6 tt) (p-strong (w .cell 2 tt) (s-one (w .cell 1 tt) z)) now) in
+      rw (w .last)
+      (p-until (w .cell 13 tt) (p-strong (w .cell 12 tt) (s-one (w .cell 11 tt) z)) (p-both (w .cell 10 tt) (p-strong (w .cell 9 tt) (s-one (w .cell 8 tt) f)) later))
+  property-stands (p-until e d f) h c-free =
+      let (g, j) = goes (h .0) e in p-until (free-copied h e refl) (property-stands d (part h e g tt) c-free) (property-stands f (part h e j tt) c-free)
+  property-stands {k} (p-until {x = x} {y = y} e d f) h (c-on {c = c} b) =
+      let (g, j) = goes (h .0) e in
+      let w = blocked h e (untilBlock (startOf s clock k) (ν c) (ν x) (ν y)) refl refl in
+      let o = condition h b in
+      let left = p-both (w .cell 3 tt) (p-strong (w .cell 1 tt) (s-one (w .first tt) o)) (p-neg (w .cell 2 tt) (property-stands d (part h e g tt) (c-on b))) in
+      let at-tick = p-both (w .cell 7 tt) (p-strong (w .cell 6 tt) (s-one (w .cell 5 tt) o)) (property-stands f (part h e j tt) (c-on b)) in
+      rw (w .last) (p-until (w .cell 8 tt) (p-neg (w .cell 4 tt) left) at-tick)
+  property-stands (p-clock e b d) h c = rw (drops (h .0) e refl) (property-stands d (part h e (goes (h .0) e .1) tt) (c-on b))

@@ -5,14 +5,14 @@ use Prim.Native.Nat.{ℕ, _+_, _*_}
 use lib.ListN.{length, drop}
 use Rattle.refusal.specs.Computed.{accepted}
 use Rattle.refusal.proofs.Unique.{Singles, single-when, singles-append, by-verdict}
-use Rattle.nodes.specs.Clocks.{Ref}
+use Rattle.nodes.specs.NodeClock.{Ref}
 use Rattle.table.specs.Check as Check
 use Rattle.table.proofs.Checking.{sound, table-singles}
+use Rattle.clocks.proofs.Timing.{clocks-unique}
+use Rattle.numbers.specs.Numbers.{newCount}
+use Rattle.writing.specs.Tables.{newTable}
 use Rattle.rewrite.specs.declared.Rewriting.{Rewriting}
-use Rattle.rewrite.specs.Numbers.{newCount}
-use Rattle.rewrite.specs.Tables.{newTable}
 use Rattle.rewrite.specs.Rewrites.{refusals, Rewrites}
-use Rattle.rewrite.proofs.Timing.{clocks-unique}
 use Rattle.rewrite.proofs.Deciding.{table-accepted}
 
 pub rewrite-singles : (s : List ℕ) (room : ℕ) → Singles (refusals s room)

@@ -13,7 +13,7 @@ use Rattle.meaning.specs.Signal.{signal}
 use Rattle.meaning.specs.Rewriting.{rewS, rewP}
 use Rattle.table.specs.Trees.{RootS, RootP}
 use Rattle.table.specs.Check.{Checks}
-use Rattle.rewrite.specs.Numbers.{isClock}
+use Rattle.clocks.specs.Clocks.{isClock}
 
 pub record Keeps (s t : List ℕ) : Type 0 where
   -- t is itself accepted, where it has at most 120 nodes

@@ -1,10 +1,6 @@
--- Rewriting, in the page's order.
-pub mod Clocks
-pub mod Numbers
-pub mod Blocks
-pub mod Tables
+-- Rewriting: what it answers and leaves. The clocks, the new numbers, the blocks and the new table are in the crates clocks, numbers, blocks and writing.
 pub mod Rewrites
 -- What rewriting keeps.
 pub mod Keeps
--- What the code is held to on the way there.
+-- What the code answers with a refusal.
 pub mod Computed

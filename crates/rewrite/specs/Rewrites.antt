@@ -4,12 +4,12 @@ use mathlib.Core.List.{List, [], _∷_, _++_}
 use Prim.Native.Nat.{ℕ, _+_, _*_, _<_}
 use lib.ListN.{length, drop}
 use Rattle.refusal.specs.First.{Refusal, when, Answers}
-use Rattle.nodes.specs.Clocks.{Ref}
+use Rattle.nodes.specs.NodeClock.{Ref}
 use Rattle.table.specs.Check as Check
+use Rattle.clocks.specs.Clocks.{Clocks}
+use Rattle.numbers.specs.Numbers.{newCount}
+use Rattle.writing.specs.Tables.{newTable}
 use Rattle.rewrite.specs.declared.Rewriting.{Rewriting}
-use Rattle.rewrite.specs.Clocks.{Clocks}
-use Rattle.rewrite.specs.Numbers.{newCount}
-use Rattle.rewrite.specs.Tables.{newTable}
 
 -- s has clocks, and P holds of them
 abbrev pub OfClocks : List ℕ → ((ℕ → Ref) → Type 0) → Type 0

@@ -1,14 +1,9 @@
-// Rewriting clocks away: refusals first, all before the first write, and then the new table, block by block.
-mod blocks;
-mod clocks;
-mod numbers;
-mod output;
-
+// Rewriting clocks away: refusals first, all before the first write, and then the new table.
 use clocks::clocks_of;
 use numbers::counts_of;
-use output::put_table;
 use refusal::Verdict;
 use refusal::wide;
+use writing::put_table;
 ghost use mathlib.Core.Path.{_≡_};
 ghost use Rattle.rewrite.specs.Rewrites.{Rewrites};
 ghost use Rattle.rewrite.specs.Computed.{refusedRewriting};

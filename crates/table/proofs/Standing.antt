@@ -14,7 +14,7 @@ use Rattle.nodes.specs.declared.SequenceOp.the-variants.{Letter, Then, Fused, E
 use Rattle.nodes.specs.declared.PropertyOp.the-variants.{Strong, Weak, Negated, AnyOf, BothOf, Implies, Next, Until, Ticked}
 use Rattle.nodes.specs.Operators.{boolean, sequence, property}
 use Rattle.nodes.specs.Nodes.{sortAt, nodeAt, WellFormed}
-use Rattle.nodes.specs.Clocks.{Ref, freeR, onR}
+use Rattle.nodes.specs.NodeClock.{Ref, freeR, onR}
 use Rattle.nodes.proofs.Shapes.{sortOf, Formed, Suits, sort-is, down}
 use Rattle.nodes.proofs.Built.{Built}
 use Rattle.nodes.proofs.Clocking.{OnBoolean}

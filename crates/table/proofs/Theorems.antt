@@ -15,7 +15,7 @@ use Rattle.meaning.proofs.Entering.{AcceptedTree, within-accepted}
 use Rattle.nodes.specs.declared.Node.{Node}
 use Rattle.nodes.specs.Operators.{boolean, sequence, property}
 use Rattle.nodes.specs.Nodes.{sortAt, nodeAt, root}
-use Rattle.nodes.specs.Clocks.{Ref, ClockOf, c-root, c-part}
+use Rattle.nodes.specs.NodeClock.{Ref, ClockOf, c-root, c-part}
 use Rattle.table.specs.Trees.{BooleanAt, SequenceAt, PropertyAt, p-strong, p-weak, p-imp, TreeAt, t-seq, t-prop, ClockAt}
 use Rattle.table.specs.Check.{Asks, by-strong, by-weak, by-implies, Checks, refusals}
 use Rattle.table.specs.Computed.{checked}

@@ -12,7 +12,7 @@ use Rattle.nodes.specs.declared.Node.{Node}
 use Rattle.nodes.specs.declared.Node.the-variants.{Boolean, Sequence, Property}
 use Rattle.nodes.specs.Operators.{sequence, operators, lookup, rowOf, bytesOf, sequenceBytes, propertyBytes}
 use Rattle.nodes.specs.Nodes.{rawAt, nodeAt, root, WellFormed}
-use Rattle.nodes.specs.Clocks.{Ref, Part, at-x, at-y, handed, ClockOf, c-root, c-part}
+use Rattle.nodes.specs.NodeClock.{Ref, Part, at-x, at-y, handed, ClockOf, c-root, c-part}
 use Rattle.table.specs.Trees.{SequenceAt, s-one, s-cat, s-fuse, s-alt, s-empty, s-plus, s-clock, PropertyAt, p-strong, p-weak, p-neg, p-either, p-both, p-imp, p-next, p-until, p-clock, TreeAt, t-seq, t-prop, ClockAt, c-free, c-on}
 use Rattle.nodes.proofs.Coded.{coded-as}
 use Rattle.table.proofs.Reading.{ReadS, ReadP, readS, readP, uniqueS, uniqueP, uniqueC}

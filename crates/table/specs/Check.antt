@@ -15,7 +15,7 @@ use Rattle.nodes.specs.declared.Node.the-variants.{Property}
 use Rattle.nodes.specs.declared.PropertyOp.the-variants.{Strong, Weak, Implies}
 use Rattle.nodes.specs.Operators.{boolean}
 use Rattle.nodes.specs.Nodes.{sortAt, nodeAt, root, WellFormed, Astray}
-use Rattle.nodes.specs.Clocks.{Ref, ClockOf}
+use Rattle.nodes.specs.NodeClock.{Ref, ClockOf}
 use Rattle.table.specs.Trees.{SequenceAt, ClockAt}
 
 -- strong, weak or `|->` over x

@@ -12,7 +12,7 @@ use Rattle.nodes.specs.declared.BooleanOp.the-variants.{Constant, Signal, Not, 
 use Rattle.nodes.specs.declared.SequenceOp.the-variants.{Letter, Then, Fused, Either, Empty, Repeat, Clocked}
 use Rattle.nodes.specs.declared.PropertyOp.the-variants.{Strong, Weak, Negated, AnyOf, BothOf, Implies, Next, Until, Ticked}
 use Rattle.nodes.specs.Nodes.{nodeAt, root}
-use Rattle.nodes.specs.Clocks.{Ref, freeR, onR}
+use Rattle.nodes.specs.NodeClock.{Ref, freeR, onR}
 
 -- ---- trees
 

@@ -13,13 +13,17 @@ use Rattle.refusal.proofs.Cases.{skip, stop, through}
 use Rattle.table.specs.Check.{Checks}
 use Rattle.nodes.proofs.Built.{Built}
 use Rattle.table.proofs.Checking.{sound}
+use Rattle.clocks.specs.Clocks.{Clocks}
+use Rattle.clocks.specs.Computed.{clockBy, AcceptedTable, Timed}
+use Rattle.numbers.specs.declared.Counts.{Counts}
+use Rattle.numbers.specs.Numbers.{newCount}
+use Rattle.numbers.specs.Computed.{CountsOf}
+use Rattle.writing.specs.Tables.{newTable}
+use Rattle.writing.specs.Computed.{put}
+use Rattle.writing.proofs.Lengths.{length-table}
 use Rattle.rewrite.specs.declared.Rewriting.{Rewriting}
-use Rattle.rewrite.specs.Clocks.{Clocks}
-use Rattle.rewrite.specs.Numbers.{newCount}
-use Rattle.rewrite.specs.Tables.{heading, encoded, newNodes, newTable}
 use Rattle.rewrite.specs.Rewrites.{Rewrites}
-use Rattle.rewrite.specs.Computed.{clockBy, Passed, Timed, put, refusedRewriting}
-use Rattle.rewrite.proofs.Cells.{length-table}
+use Rattle.rewrite.specs.Computed.{refusedRewriting}
 use Rattle.rewrite.proofs.Deciding.{checks-accepted, size, size-is, table-stops, table-passes, answered, declines}
 use Rattle.rewrite.proofs.rewrite.Statement.{statement}
 use Rattle.rewrite.proofs.rewrite.Tie as tie
@@ -35,40 +39,38 @@ module _ (s : List ℕ) (v : Verdict) (ev : Checks s v) where
     has-count : 5 < length s
     has-count = let l = built .long in omega arith
 
-    ready : Passed s
-    ready = let l = built .long in record { checks = checks-accepted s v ev h; few = built .few; long = omega arith }
+    table : AcceptedTable s
+    table = let l = built .long in record { checks = checks-accepted s v ev h; few = built .few; long = omega arith }
 
     module _ (clocks : List ℕ) (right : Clocks s (clockBy clocks)) where
       timed : length clocks ≡ 121 → Timed s clocks
-      timed l = record { ready = ready; size = l; right = right }
+      timed l = record { table = table; size = l; right = right }
 
-      module _ (m : ℕ) (em : m ≡ newCount s (clockBy clocks)) (d : List ℕ) where
+      module _ (r : Counts) (er : CountsOf s clocks r) (d : List ℕ) where
+        abbrev m : ℕ
+        m = r .all
+
         counted : size s ≡ m
-        counted = size-is s (ready .checks) (clockBy clocks) right ∙ sym em
+        counted = size-is s (table .checks) (clockBy clocks) right ∙ sym (er .all)
 
-        many : 120 < m → (r : Rewriting) → r ≡ refusedRewriting 13 0 → Rewrites s d r d
-        many g r er = rw er (declines s d (refusedRewriting 13 0) (sym (table-passes s (length d) v ev h ∙ stop _ _ _ (rw counted (lt-ltb 120 m g)))) (λ z. omega arith) refl)
+        many : 120 < m → (a : Rewriting) → a ≡ refusedRewriting 13 0 → Rewrites s d a d
+        many g a ea = rw ea (declines s d (refusedRewriting 13 0) (sym (table-passes s (length d) v ev h ∙ stop _ _ _ (rw counted (lt-ltb 120 m g)))) (λ z. omega arith) refl)
 
         module _ (few : m ≤ 120) where
-          small : length d < 4 * m + 6 → (r : Rewriting) → r ≡ refusedRewriting 15 0 → Rewrites s d r d
-          small g r er =
-              rw er
+          small : length d < 4 * m + 6 → (a : Rewriting) → a ≡ refusedRewriting 15 0 → Rewrites s d a d
+          small g a ea =
+              rw ea
               (declines s d (refusedRewriting 15 0) (sym (table-passes s (length d) v ev h ∙ skip _ _ _ (rw counted (le-ltb 120 m few)) ∙ stop _ _ _ (rw counted (lt-ltb (length d) (6 + 4 * m) (omega arith)))))
               (λ z. omega arith) refl)
 
-          done : 4 * m + 6 ≤ length d → (d′ : List ℕ) → d′ ≡ put d 0 (heading m ++ encoded (newNodes s (clockBy clocks))) → Rewrites s d (record { verdict = accepted; count = m }) d′
-          unfolding put newTable
+          done : 4 * m + 6 ≤ length d → (d′ : List ℕ) → d′ ≡ put d 0 (newTable s (clockBy clocks)) → Rewrites s d (record { verdict = accepted; count = m }) d′
+          unfolding put
           done g d′ e =
-              let xs = encoded (newNodes s (clockBy clocks)) in
               let l = length-table s (clockBy clocks) (built .fit) in
               let j : 0 + length (newTable s (clockBy clocks)) ≡ 6 + 4 * newCount s (clockBy clocks) = omega arith in
               record {
                 answer = answered s d accepted (sym (table-passes s (length d) v ev h ∙ skip _ _ _ (rw counted (le-ltb 120 m few)) ∙ skip _ _ _ (rw counted (le-ltb (length d) (6 + 4 * m) (omega arith))) ∙ through));
-                accepted = λ _. (
-                  clockBy clocks,
-                  right,
-                  (em, e ∙ ap (λ (i : ℕ). put d 0 (heading i ++ xs)) em ∙ ap (λ (i : ℕ). newTable s (clockBy clocks) ++ drop i d) j),
-                );
+                accepted = λ _. (clockBy clocks, right, (er .all, e ∙ ap (λ (i : ℕ). newTable s (clockBy clocks) ++ drop i d) j));
                 refused = λ z. absurd (z refl);
               }
 
@@ -81,7 +83,7 @@ rewrite-spec =
     (λ c. search opening)
     (λ c. search has-count)
     (λ c κs. search needs)
-    (λ c κs. (search ready, search needs))
+    (λ c κs. (search table, search needs))
     (λ c. search needs)
     (λ c κs. (search timed, search needs))
     (λ c κs. search needs)

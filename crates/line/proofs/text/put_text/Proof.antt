@@ -3,7 +3,7 @@ use borrow.Author.Needs.{needs}
 use mathlib.Core.Path.{_≡_}
 use Prim.Native.Nat.{_-_, _≤_}
 use lib.ListN.{length, take}
-use Rattle.rewrite.specs.Computed.{put}
+use Rattle.writing.specs.Computed.{put}
 use Rattle.line.proofs.Lines.{text-none, text-more, puts-text}
 use Rattle.line.proofs.text.put_text.Statement.{statement}
 use Rattle.line.proofs.text.put_text.Tie as tie

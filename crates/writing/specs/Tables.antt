@@ -1,0 +1,38 @@
+-- Document 01, "Rewriting, node by node": rewriting writes a whole table, 6 + 4m bytes for m nodes. Assumes nothing.
+use mathlib.Core.Bool.{Bool, cond}
+use mathlib.Core.List.{List, [], _∷_, _++_}
+use Prim.Native.Nat.{ℕ, zero, suc}
+use Rattle.refusal.specs.Heading.{count, mark}
+use Rattle.nodes.specs.declared.Raw.{Raw}
+use Rattle.nodes.specs.Nodes.{rawAt}
+use Rattle.nodes.specs.NodeClock.{Ref}
+use Rattle.numbers.specs.Numbers.{isBoolean, isOther, newCount, startOf, numberOf}
+use Rattle.blocks.specs.Blocks.{blockUnder}
+
+-- the mark, version 1 and the count
+abbrev pub heading : ℕ → List ℕ
+heading m = mark 0x54 ++ (1 ∷ 0 ∷ m ∷ [])
+
+-- 4 bytes a node
+abbrev pub fourBytes : Raw → List ℕ
+fourBytes r = r .op ∷ r .x ∷ r .y ∷ r .fourth ∷ []
+
+unfoldable pub encoded : List Raw → List ℕ
+encoded [] = []
+encoded (r ∷ rs) = fourBytes r ++ encoded rs
+
+module _ (s : List ℕ) (clock : ℕ → Ref) where
+  abbrev pub blockOf : ℕ → List Raw
+  blockOf k = blockUnder (numberOf s clock) (clock k) (startOf s clock k) (rawAt s k)
+
+  -- the blocks of those nodes below k that pass the test, in order
+  unfoldable pub laid : (ℕ → Bool) → ℕ → List Raw
+  laid test zero = []
+  laid test (suc k) = laid test k ++ cond (test k) (blockOf k) []
+
+  -- first all booleans, then one block per other node
+  abbrev pub newNodes : List Raw
+  newNodes = laid (isBoolean s) (count s) ++ laid (isOther s) (count s)
+
+  unfoldable pub newTable : List ℕ
+  newTable = heading (newCount s clock) ++ encoded newNodes
