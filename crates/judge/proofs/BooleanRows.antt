@@ -13,8 +13,8 @@ use Rattle.meaning.specs.Signal.{signal}
 use Rattle.nodes.specs.declared.Node.the-variants.{Boolean}
 use Rattle.nodes.specs.declared.BooleanOp.{BooleanOp}
 use Rattle.nodes.specs.declared.BooleanOp.the-variants.{Constant, Signal, Not, And, Or}
-use Rattle.rows.specs.Shares.{longest, wordIn}
-use Rattle.rows.specs.Bits.{booleanBit}
+use Rattle.cells.specs.Shares.{longest, wordIn}
+use Rattle.cells.specs.Bits.{booleanBit}
 use Rattle.judge.specs.Rows.{BooleanRow}
 use Rattle.judge.proofs.WordBits.{Laid, off-word, has-word}
 

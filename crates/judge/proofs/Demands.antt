@@ -37,7 +37,7 @@ use Rattle.clocks.specs.Clocks.{Clocks}
 use Rattle.numbers.specs.Numbers.{newCount}
 use Rattle.writing.specs.Tables.{newTable}
 use Rattle.rewrite.specs.Rewrites.{tooMany}
-use Rattle.rows.specs.Shares.{share, longest, topWord, wordIn, bitIn, wordOf}
+use Rattle.cells.specs.Shares.{share, longest, topWord, wordIn, bitIn, wordOf}
 use Rattle.judge.specs.declared.Judgement.{Judgement}
 use Rattle.judge.specs.declared.MatchEnds.{MatchEnds}
 use Rattle.judge.specs.Tested.{Tested}

@@ -39,7 +39,7 @@ use Rattle.numbers.specs.Numbers.{newCount}
 use Rattle.writing.specs.Tables.{newTable}
 use Rattle.rewrite.specs.Rewrites.{OfClocks, tooMany}
 use Rattle.rewrite.specs.Keeps.{Keeps}
-use Rattle.rows.specs.Shares.{share, longest, topWord, wordIn, bitIn, HasRow}
+use Rattle.cells.specs.Shares.{share, longest, topWord, wordIn, bitIn, HasRow}
 use Rattle.rows.specs.Rows.{filled, Fits}
 use Rattle.judge.specs.Tested.{Tested}
 use Rattle.judge.specs.Rows.{Onward, Filled}

@@ -24,7 +24,7 @@ use Rattle.nodes.proofs.Coded.{coded-as}
 use Rattle.nodes.proofs.Shapes.{Formed, Suits, down}
 use Rattle.table.proofs.Checking.{sound}
 use Rattle.clocks.specs.Clocks.{isClock}
-use Rattle.rows.specs.Shares.{share, longest, wordIn, HasRow}
+use Rattle.cells.specs.Shares.{share, longest, wordIn, HasRow}
 use Rattle.rows.specs.Rows.{rowsOf, filled, Ready}
 use Rattle.judge.specs.Rows.{BooleanRow, SequenceRow, PropertyRow, Filled}
 use Rattle.rows.proofs.Filling.{row-at, length-filled, filled-row, filled-rest}

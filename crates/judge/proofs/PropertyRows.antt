@@ -19,9 +19,9 @@ use Rattle.meaning.proofs.Words.{bar-word}
 use Rattle.nodes.specs.declared.Node.the-variants.{Property}
 use Rattle.nodes.specs.declared.PropertyOp.{PropertyOp}
 use Rattle.nodes.specs.declared.PropertyOp.the-variants as op
-use Rattle.rows.specs.Shares.{topWord, longest, wordIn, bitIn, wordOf}
-use Rattle.rows.specs.Bits.{starts, follows, untilFrom, untilLast, propertyBit}
-use Rattle.rows.specs.Rows.{set64}
+use Rattle.cells.specs.Shares.{topWord, longest, wordIn, bitIn, wordOf}
+use Rattle.cells.specs.Bits.{starts, follows, untilFrom, untilLast, propertyBit}
+use Rattle.cells.specs.Stored.{set64}
 use Rattle.judge.specs.Rows.{Inside, SequenceRow, PropertyRow}
 use Rattle.judge.proofs.WordBits.{Laid, in-word, off-word}
 use Rattle.judge.proofs.Stepping.{ends-inside, Longer, strong-shut, strong-open, weak-none, weak-tops, weak-bots, implies-step, next-step, until-here, until-tail, until-past}

@@ -29,7 +29,7 @@ use Rattle.rewrite.specs.Rewrites as Rewrites
 use Rattle.clocks.proofs.Timing.{clocks-unique}
 use Rattle.rewrite.proofs.Deciding.{few-new}
 use Rattle.rewrite.proofs.Theorems.{output-is}
-use Rattle.rows.specs.Shares.{share, longest}
+use Rattle.cells.specs.Shares.{share, longest}
 use Rattle.judge.specs.Refusals.{wrongRoot, tooLong, startAbove, tooSmall}
 use Rattle.rewrite.specs.Computed.{refusedRewriting}
 use Rattle.judge.specs.Computed.{settling, Settles}

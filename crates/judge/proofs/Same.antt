@@ -22,7 +22,7 @@ use Rattle.table.specs.Check.{Checks}
 use Rattle.nodes.proofs.Shapes.{sortOf, sort-is}
 use Rattle.table.proofs.Standing.{boolean-in, sequence-in, property-in}
 use Rattle.table.proofs.Checking.{sound}
-use Rattle.rows.specs.Shares.{share, topWord, wordIn, wordOf}
+use Rattle.cells.specs.Shares.{share, topWord, wordIn, wordOf}
 use Rattle.judge.specs.Rows.{BooleanRow, SequenceRow, PropertyRow, Filled}
 
 -- two words that agree below n, and have no place from n on

@@ -20,9 +20,9 @@ use Rattle.meaning.proofs.Words.{word-out}
 use Rattle.nodes.specs.declared.Node.the-variants.{Sequence}
 use Rattle.nodes.specs.declared.SequenceOp.{SequenceOp}
 use Rattle.nodes.specs.declared.SequenceOp.the-variants.{Letter, Then, Fused, Either, Empty, Repeat}
-use Rattle.rows.specs.Shares.{topWord, longest, wordIn, bitIn}
-use Rattle.rows.specs.Bits.{reached, longer, repeated, sequenceBit, goesOn, startsOpen, topBit}
-use Rattle.rows.specs.Rows.{set64}
+use Rattle.cells.specs.Shares.{topWord, longest, wordIn, bitIn}
+use Rattle.cells.specs.Bits.{reached, longer, repeated, sequenceBit, goesOn, startsOpen, topBit}
+use Rattle.cells.specs.Stored.{set64}
 use Rattle.judge.specs.Rows.{Inside, Onward, BooleanRow, SequenceRow}
 use Rattle.judge.proofs.WordBits.{Laid, in-word, off-word}
 use Rattle.judge.proofs.Stepping.{word-at, starts-below, ends-inside, onward-one, onward-cat, onward-fuse, onward-alt, onward-empty, onward-plus}

@@ -25,8 +25,8 @@ use Rattle.nodes.proofs.Shapes.{down}
 use Rattle.table.proofs.Standing.{sequence-in}
 use Rattle.table.proofs.Reading.{uniqueS}
 use Rattle.nodes.proofs.Built.{Built}
-use Rattle.rows.specs.Shares.{share, longest, wordIn, HasRow}
-use Rattle.rows.specs.Bits.{starts}
+use Rattle.cells.specs.Shares.{share, longest, wordIn, HasRow}
+use Rattle.cells.specs.Bits.{starts}
 use Rattle.judge.specs.Tested.{ImpliesAt, Matched, Tested}
 use Rattle.judge.specs.Rows.{Inside, SequenceRow, Filled}
 use Rattle.judge.proofs.Stepping.{ends-inside}

@@ -10,8 +10,9 @@ use Rattle.telling.proofs.Telling.{is-map, is-and, is-lt, is-as}
 use Rattle.positions.specs.Member.{has}
 use Rattle.positions.proofs.Laws.{has-collect}
 use Rattle.nodes.specs.declared.Node.{Node}
-use Rattle.rows.specs.Shares.{share}
-use Rattle.rows.specs.Rows.{set64, nodeWord}
+use Rattle.cells.specs.Shares.{share}
+use Rattle.cells.specs.Stored.{set64}
+use Rattle.rows.specs.Rows.{nodeWord}
 
 -- `row` is the row of the node v on the samples xs, made of the rows R below. A record, so that all four are read off a proof's type
 pub record Laid (xs R : List ℕ) (v : Node) (row : ℕ → ℕ) : Type 0 where

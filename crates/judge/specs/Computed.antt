@@ -14,8 +14,8 @@ use Rattle.rewrite.specs.declared.Rewriting.{Rewriting}
 use Rattle.numbers.specs.Numbers.{newCount}
 use Rattle.writing.specs.Tables.{newTable}
 use Rattle.rewrite.specs.Rewrites.{OfClocks, tooMany}
-use Rattle.rows.specs.Shares.{longest, bitIn, HasRow}
-use Rattle.rows.specs.Bits.{starts}
+use Rattle.cells.specs.Shares.{longest, bitIn, HasRow}
+use Rattle.cells.specs.Bits.{starts}
 use Rattle.judge.specs.Refusals.{wrongRoot, tooLong, startAbove, tooSmall}
 
 -- ---- settling

@@ -9,7 +9,7 @@ use Rattle.nodes.specs.Nodes.{sortAt, root}
 use Rattle.table.specs.Check as Check
 use Rattle.numbers.specs.Numbers.{newCount}
 use Rattle.rewrite.specs.Rewrites.{OfClocks, tooMany}
-use Rattle.rows.specs.Shares.{share, longest}
+use Rattle.cells.specs.Shares.{share, longest}
 
 -- a root of the wrong sort
 abbrev pub wrongRoot : List ℕ → ℕ → Refusal

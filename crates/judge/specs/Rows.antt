@@ -13,7 +13,7 @@ use Rattle.meaning.specs.Meaning.{value, Match, Sat}
 use Rattle.meaning.specs.Signal.{signal}
 use Rattle.nodes.specs.Nodes.{nodeAt}
 use Rattle.table.specs.Trees.{BooleanAt, SequenceAt, PropertyAt}
-use Rattle.rows.specs.Shares.{share, topWord, wordIn, wordOf}
+use Rattle.cells.specs.Shares.{share, topWord, wordIn, wordOf}
 
 -- samples i to j - 1 match
 abbrev pub Inside : Seq ℕ → List ℕ → ℕ → ℕ → Type 0

@@ -2,6 +2,8 @@
 mod reading;
 mod settling;
 
+use cells::TOP_WORD;
+use cells::word_at;
 use meaning::Level;
 use nodes::operators::PROPERTY;
 use nodes::operators::SEQUENCE;
@@ -9,8 +11,6 @@ use positions::PositionSet;
 use reading::level_of;
 use reading::tested;
 use refusal::Verdict;
-use rows::cells::TOP_WORD;
-use rows::cells::word_at;
 use rows::fill;
 use settling::settle;
 ghost use Rattle.judge.specs.Judges.{Judges, EndsMatches};

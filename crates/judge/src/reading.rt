@@ -1,16 +1,16 @@
 // What is read off the rows: the level of the root, and whether the table was tested.
+use cells::starts_of;
+use cells::word_at;
 use meaning::Level;
 use nodes::node_at;
 use refusal::wide;
-use rows::cells::starts_of;
-use rows::cells::word_at;
 ghost use mathlib.Core.Path.{_≡_};
 ghost use mathlib.Core.Bool.{true, _&&_};
 ghost use Prim.Native.Nat.{_≤_};
 ghost use lib.ListN.{length};
 ghost use Rattle.telling.specs.Tells.{some};
-ghost use Rattle.rows.specs.Shares.{longest, HasRow};
-ghost use Rattle.rows.specs.Bits.{starts};
+ghost use Rattle.cells.specs.Shares.{longest, HasRow};
+ghost use Rattle.cells.specs.Bits.{starts};
 ghost use Rattle.judge.specs.Computed.{levelIn, testedIn, Testing};
 
 // The operator of `|->`.

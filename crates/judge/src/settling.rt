@@ -1,11 +1,11 @@
 // What a call refuses, and what it needs of the table: both are settled here, before anything is written.
+use cells::LONGEST;
+use cells::SHARE;
 use nodes::sort_at;
 use refusal::wide;
 use rewrite::Rewriting;
 use rewrite::refused;
 use rewrite::rewrite;
-use rows::cells::LONGEST;
-use rows::cells::SHARE;
 ghost use mathlib.Core.Path.{_≡_};
 ghost use lib.ListN.{length};
 ghost use Rattle.judge.specs.Computed.{Settles};

@@ -23,7 +23,7 @@ use Rattle.record.specs.declared.Reading.{Reading}
 use Rattle.record.specs.Record as Record
 use Rattle.record.specs.Record.{Reads}
 use Rattle.record.proofs.Samples.{length-samples}
-use Rattle.rows.specs.Shares.{longest}
+use Rattle.cells.specs.Shares.{longest}
 use Rattle.judge.specs.declared.Judgement.{Judgement}
 use Rattle.judge.specs.Refusals.{wrongRoot, judgeRefusals}
 use Rattle.judge.specs.Judges.{Judges}

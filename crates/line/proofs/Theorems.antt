@@ -19,7 +19,7 @@ use Rattle.table.specs.Check as Check
 use Rattle.table.proofs.Checking.{table-singles}
 use Rattle.rewrite.specs.Rewrites.{tooMany}
 use Rattle.record.specs.Record as Record
-use Rattle.rows.specs.Shares.{longest}
+use Rattle.cells.specs.Shares.{longest}
 use Rattle.judge.specs.declared.Judgement.{Judgement}
 use Rattle.judge.specs.Refusals.{wrongRoot}
 use Rattle.judge.proofs.Unique.{judge-unique}

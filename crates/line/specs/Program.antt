@@ -17,7 +17,7 @@ use Rattle.table.specs.Check as Check
 use Rattle.writing.specs.Tables.{newTable}
 use Rattle.rewrite.specs.Rewrites.{OfClocks, tooMany}
 use Rattle.record.specs.Record as Record
-use Rattle.rows.specs.Shares.{longest}
+use Rattle.cells.specs.Shares.{longest}
 use Rattle.judge.specs.declared.Judgement.{Judgement}
 use Rattle.judge.specs.Tested.{Tested}
 use Rattle.judge.specs.Refusals.{wrongRoot}

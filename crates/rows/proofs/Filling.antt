@@ -17,11 +17,13 @@ use Rattle.nodes.specs.declared.PropertyOp.{PropertyOp}
 use Rattle.nodes.specs.Nodes.{nodeAt}
 use Rattle.positions.specs.Member.{Is}
 use Rattle.positions.proofs.Laws.{ext, has-none}
-use Rattle.rows.specs.declared.cells.Suffixes.{Suffixes}
-use Rattle.rows.specs.Shares.{share}
-use Rattle.rows.specs.Bits.{booleanBit, Satisfying}
-use Rattle.rows.specs.Rows.{tab, threeWords, nodeWord, nodeRow, rowsOf, withRow, filled, None, Stored}
-use Rattle.rows.proofs.Laying.{word-is, length-tab, getD-tab, laid-is}
+use Rattle.properties.specs.declared.Suffixes.{Suffixes}
+use Rattle.cells.specs.Shares.{share}
+use Rattle.cells.specs.Bits.{booleanBit}
+use Rattle.properties.specs.Shapes.{Satisfying}
+use Rattle.cells.specs.Stored.{tab, withRow, None, Stored}
+use Rattle.rows.specs.Rows.{threeWords, threeRow, nodeWord, nodeRow, rowsOf, filled}
+use Rattle.cells.proofs.Laying.{word-is, length-tab, getD-tab, laid-is}
 
 -- ---- a row of three words
 
@@ -73,7 +75,7 @@ boolean-laid d xs out k op node u v w en hu eu ev ew e =
 
 pub property-laid : (d xs out : List ℕ) (k : ℕ) (op : PropertyOp) (node : Node) (r : Suffixes) → node ≡ Property op
     → r .neutral .bits < 2 ^ 64 → r .weak .bits < 2 ^ 64 → r .strong .bits < 2 ^ 64 → Satisfying (take (share * k) d) (length xs) op r
-    → out ≡ withRow d k (tab (threeWords (r .neutral .bits) (r .weak .bits) (r .strong .bits)) share)
+    → out ≡ withRow d k (threeRow r)
     → out ≡ withRow d k (nodeRow (take (share * k) d) xs node)
 unfolding nodeRow
 property-laid d xs out k op node r en hu hv hw q e =

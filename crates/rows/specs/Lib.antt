@@ -1,4 +1,2 @@
--- What a word of a row is, from the rows of the operands, and the workspace that the rows are laid in.
-pub mod Shares
-pub mod Bits
+-- The rows of a table's nodes, and the workspace that they are laid in.
 pub mod Rows

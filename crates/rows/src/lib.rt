@@ -1,53 +1,31 @@
 // The rows of a table without clocks, in the lent workspace: 65 words a node, made from the rows below it by word operations.
-mod booleans;
-pub mod cells;
-mod properties;
-mod sequences;
-mod untils;
-mod words;
-
 use booleans::boolean_set;
 use cells::SHARE;
-use cells::Suffixes;
-use cells::TOP_WORD;
+use cells::clear;
 use nodes::Node;
-use nodes::SequenceOp;
 use nodes::decode;
 use nodes::node_at;
 use positions::PositionSet;
+use properties::Suffixes;
 use properties::suffixes_of;
-use sequences::open_starts;
-use words::clear;
-use words::put_words;
+use sequences::put_sequence;
 ghost use mathlib.Core.Path.{_≡_};
 ghost use Prim.Native.Nat.{_*_, _≤_};
 ghost use lib.ListN.{length, take};
-ghost use Rattle.rows.specs.Shares.{share, longest, HasRow};
-ghost use Rattle.rows.specs.Bits.{readySequence};
-ghost use Rattle.rows.specs.Rows.{tab, threeWords, sequenceWord, nodeRow, withRow, filled, Ready, Fits};
+ghost use Rattle.cells.specs.Shares.{share, longest, HasRow};
+ghost use Rattle.cells.specs.Stored.{withRow};
+ghost use Rattle.rows.specs.Rows.{threeRow, nodeRow, filled, Ready, Fits};
 
 // A row of three words, the others 0.
 fn put_three(ws: &mut [u64], k: usize, words: Suffixes)
     requires { ⌜ HasRow (length (now ws)) k ⌝ }
-    ensures { λ _. ⌜ now (ws .exit) ≡ withRow (now (ws .entry)) k (tab (threeWords (words .neutral .bits) (words .weak .bits) (words .strong .bits)) share) ⌝ }
+    ensures { λ _. ⌜ now (ws .exit) ≡ withRow (now (ws .entry)) k (threeRow words) ⌝ }
 {
     let at = SHARE * k;
     ws[at] = words.neutral.bits;
     ws[at + 1] = words.weak.bits;
     ws[at + 2] = words.strong.bits;
     clear(ws, at, 3, SHARE);
-}
-
-// A sequence's row: its words up to n, then word 64, and 0 between.
-fn put_sequence(ws: &mut [u64], k: usize, op: SequenceOp, n: usize)
-    requires { ⌜ HasRow (length (now ws)) k × readySequence (share * k) op × (n ≤ longest) ⌝ }
-    ensures { λ _. ⌜ now (ws .exit) ≡ withRow (now (ws .entry)) k (tab (sequenceWord (take (share * k) (now (ws .entry))) n op) share) ⌝ }
-{
-    let at = SHARE * k;
-    let tops = put_words(ws, k, op, n);
-    let open = open_starts(&ws[..at], n, op);
-    ws[at + TOP_WORD] = tops.joined(open.cut(n)).bits;
-    clear(ws, at, n + 1, TOP_WORD);
 }
 
 // Row k, from the rows below it.

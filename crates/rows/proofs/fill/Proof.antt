@@ -4,6 +4,7 @@ use Prim.Native.Nat.{_≤_, _-_}
 use native.Mathlib.Omega.{arith}
 use lib.ListN.{length}
 use Rattle.nodes.specs.Operators.{nodeOf}
+use Rattle.nodes.specs.Nodes.{nodeAt}
 use Rattle.rows.specs.Rows.{filled}
 use Rattle.rows.proofs.Filling.{filled-zero, filled-step}
 use borrow.Author.Needs.{needs}
@@ -16,38 +17,26 @@ Inv-loop table samples ws₀ m k₀ ws k = (k ≤ m) × (length ws ≡ length ws
 abbrev μ-loop : tie.MeasureT-loop
 μ-loop table samples ws₀ m k₀ ws k = m - k
 
-loop-holds : tie.Need-loop-holds Inv-loop μ-loop
-loop-holds c = (search needs, refl, filled-zero _ _ _)
+-- what is known when a node is decoded
+module _ (d : tie.After-decode Inv-loop μ-loop) where
+  abbrev turn : tie.At-loop Inv-loop μ-loop
+  turn = d .before .before .before .before
 
-node-at-requires : tie.Need-node-at-requires Inv-loop μ-loop
-node-at-requires c κs = search needs
+  abbrev start : tie.Start Inv-loop μ-loop
+  start = turn .before .before .before .before
 
-decode-requires : tie.Need-decode-requires Inv-loop μ-loop
-decode-requires c κs = search needs
+  node : d .decode .result ≡ nodeAt (start .args .table .now) (turn .loop .k)
+  node = d .decode .ensures .made ∙ ap nodeOf (d .before .node-at .ensures)
 
 put-row-requires : tie.Need-put-row-requires Inv-loop μ-loop
-put-row-requires c κs =
-    let l = c .before .before .before .before .loop in
-    (search needs, rw (c .decode .ensures .made, c .before .node-at .ensures) (c .before .before .before .before .before .before .before .before .pre .ready (l .k) (search needs)), search needs)
-
-add-k : tie.Need-add-k Inv-loop μ-loop
-add-k c = search needs
-
-loop-less : tie.Need-loop-less Inv-loop μ-loop
-loop-less c = search needs
+put-row-requires c κs = (search needs, rw (node c) (start c .pre .ready (turn c .loop .k) (search needs)), search needs)
 
 loop-again : tie.Need-loop-again Inv-loop μ-loop
 loop-again c =
-    let l = c .before .before .before .before .before .before .before .loop in
     let r = c .before .before .put-row in
-    let d = c .before .before .before .decode in
-    (search needs, r .kept .0 ∙ l .inv .1, filled-step _ _ _ _ _ _ (d .result) (l .inv .2) (d .ensures .made ∙ ap nodeOf (c .before .before .before .before .node-at .ensures)) (r .ensures))
-
-same-length : tie.Need-same-length Inv-loop μ-loop
-same-length c = search needs
-
-returns : tie.Need-returns Inv-loop μ-loop
-returns c = c .before .loop .inv .2 ∙ ap (filled _ _ _) (omega arith)
+    let d = c .before .before .before in
+    let l = turn d .loop .inv in
+    (search needs, r .kept .0 ∙ l .1, filled-step _ _ _ _ _ _ (d .decode .result) (l .2) (node d) (r .ensures))
 
 pub fill-spec : {M : Type 1} → statement M
 fill-spec =
@@ -55,12 +44,12 @@ fill-spec =
     (tie.spec
     Inv-loop
     μ-loop
-    loop-holds
-    node-at-requires
-    decode-requires
+    (λ c. (search needs, refl, filled-zero _ _ _))
+    (λ c κs. search needs)
+    (λ c κs. search needs)
     put-row-requires
-    add-k
-    loop-less
+    (λ c. search needs)
+    (λ c. search needs)
     loop-again
-    same-length
-    returns)
+    (λ c. search needs)
+    (λ c. c .before .loop .inv .2 ∙ ap (filled _ _ _) (omega arith)))

@@ -1,102 +1,67 @@
 -- `rows::put_row` meets its contract: each arm lays in the row of its sort. Assumes nothing.
-use mathlib.Core.Path.{sym}
 use Prim.Native.Nat.{_*_}
-use lib.Seq.{length-take-le}
-use Rattle.rows.specs.Shares.{share}
-use Rattle.rows.specs.Rows.{nodeRow}
-use Rattle.rows.proofs.Filling.{boolean-laid, property-laid}
+use mathlib.Core.Path.{_≡_, subst}
+use lib.ListN.{length, take}
 use borrow.Author.Needs.{needs}
+use Rattle.nodes.specs.declared.Node.{Node}
+use Rattle.cells.specs.Shares.{share}
+use Rattle.cells.proofs.Laying.{below-share}
+use Rattle.rows.specs.Rows.{nodeRow, Ready}
+use Rattle.rows.proofs.Filling.{boolean-laid, property-laid}
 use Rattle.rows.proofs.put_row.Statement.{statement}
 use Rattle.rows.proofs.put_row.Tie as tie
 
-mul-at : tie.Need-mul-at
-mul-at c = search needs
+-- what every arm starts from: the rows below share k
+module _ (d : tie.After-shared-slice-known) where
+  abbrev start : tie.Start
+  start = d .before .before
 
-enum-known-node : tie.Need-enum-known-node
-enum-known-node c = search needs
+  below : share * start .args .k ≡ length (take (share * start .args .k) (start .args .ws .now))
+  below = below-share _ _ (start .pre .0)
 
-slice-reshare-prefix-boolean-set : tie.Need-slice-reshare-prefix-boolean-set
-slice-reshare-prefix-boolean-set c = search needs
+  -- the node's kind is known
+  kind : (x : Node) → start .args .node ≡ x → Ready (share * start .args .k) x
+  kind x e = subst (Ready (share * start .args .k)) e (start .pre .1)
 
-slice-aggregate-boolean-set : tie.Need-slice-aggregate-boolean-set
-slice-aggregate-boolean-set c = sym (length-take-le _ (c .before .before .before .before .before .before .args .ws .now) (search needs))
-
-boolean-set-requires : tie.Need-boolean-set-requires
-boolean-set-requires c κs =
-    let a = c .before .before .before .before .before .before in
-    (rw (length-take-le (share * a .args .k) (a .args .ws .now) (search needs)) (rw (c .before .before .node .given .1) at (a .pre .1)), search needs)
-
-empty-requires : tie.Need-empty-requires
-empty-requires c κs = search needs
-
-put-three-requires : tie.Need-put-three-requires
-put-three-requires c κs = search needs
-
-enum-known-node-2 : tie.Need-enum-known-node-2
-enum-known-node-2 c = search needs
-
-put-sequence-requires : tie.Need-put-sequence-requires
-put-sequence-requires c κs = (search needs, rw (c .before .before .node2 .given .1) at (c .before .before .before .before .before .before .pre .1), search needs)
-
-enum-known-node-3 : tie.Need-enum-known-node-3
-enum-known-node-3 c = search needs
-
-slice-reshare-prefix-suffixes-of : tie.Need-slice-reshare-prefix-suffixes-of
-slice-reshare-prefix-suffixes-of c = search needs
-
-slice-aggregate-suffixes-of : tie.Need-slice-aggregate-suffixes-of
-slice-aggregate-suffixes-of c = sym (length-take-le _ (c .before .before .before .before .before .before .args .ws .now) (search needs))
-
-suffixes-of-requires : tie.Need-suffixes-of-requires
-suffixes-of-requires c κs =
-    let a = c .before .before .before .before .before .before in
-    (rw (length-take-le (share * a .args .k) (a .args .ws .now) (search needs)) (rw (c .before .before .node3 .given .1) at (a .pre .1)), search needs)
-
-put-three-requires-2 : tie.Need-put-three-requires-2
-put-three-requires-2 c κs = search needs
-
-same-length : tie.Need-same-length
-same-length c = search needs
+  ready : (x : Node) → start .args .node ≡ x → Ready (length (take (share * start .args .k) (start .args .ws .now))) x
+  ready x e = subst (λ w. Ready w x) below (kind x e)
 
 returns : tie.Need-returns
 returns c =
-    boolean-laid _ _ _ _ _ _ _ _ _ (c .before .before .before .before .before .before .before .before .node .given .1) (search needs) (c .before .before .before .before .before .boolean-set .ensures) (c .before .before .before .before .empty .ensures) (c .before .before .before .before .empty .ensures) (c .before .before .put-three .ensures)
-
-same-length-2 : tie.Need-same-length-2
-same-length-2 c = search needs
+    let none = c .before .before .before .before in
+    let set = none .before in
+    boolean-laid _ _ _ _ _ _ _ _ _ (set .before .before .before .node .given .1) (search needs) (set .boolean-set .ensures) (none .empty .ensures) (none .empty .ensures) (c .before .before .put-three .ensures)
 
 returns-2 : tie.Need-returns-2
 unfolding nodeRow
-returns-2 c = rw (c .before .before .before .before .before .node2 .given .1) (c .before .before .put-sequence .ensures)
-
-same-length-3 : tie.Need-same-length-3
-same-length-3 c = search needs
+returns-2 c = let put = c .before .before in rw (put .before .before .before .node2 .given .1) (put .put-sequence .ensures)
 
 returns-3 : tie.Need-returns-3
 returns-3 c =
-    property-laid _ _ _ _ _ _ _ (c .before .before .before .before .before .before .before .node3 .given .1) (search needs) (search needs) (search needs) (c .before .before .before .before .suffixes-of .ensures) (c .before .before .put-three2 .ensures)
+    let words = c .before .before .before .before in
+    property-laid _ _ _ _ _ _ _ (words .before .before .before .node3 .given .1) (search needs) (search needs) (search needs) (words .suffixes-of .ensures) (c .before .before .put-three2 .ensures)
 
 pub put-row-spec : {M : Type 1} → statement M
 put-row-spec =
     tie.close
     (tie.spec
-    mul-at
-    enum-known-node
-    slice-reshare-prefix-boolean-set
-    slice-aggregate-boolean-set
-    boolean-set-requires
-    empty-requires
-    put-three-requires
-    enum-known-node-2
-    put-sequence-requires
-    enum-known-node-3
-    slice-reshare-prefix-suffixes-of
-    slice-aggregate-suffixes-of
-    suffixes-of-requires
-    put-three-requires-2
-    same-length
+    (λ c. search needs)
+    (λ c. search needs)
+    (λ c. search needs)
+    (λ c. below (c .before .before .before .before))
+    (λ c κs. let node = c .before .before in (ready (node .before .before) _ (node .node .given .1), search needs))
+    (λ c κs. search needs)
+    (λ c κs. search needs)
+    (λ c. search needs)
+    (λ c κs. let node = c .before .before in (search needs, kind (node .before .before) _ (node .node2 .given .1), search needs))
+    (λ c. search needs)
+    (λ c. search needs)
+    (λ c. below (c .before .before .before .before))
+    (λ c κs. let node = c .before .before in (ready (node .before .before) _ (node .node3 .given .1), search needs))
+    (λ c κs. search needs)
+    (λ c. search needs)
     returns
-    same-length-2
+    (λ c. search needs)
     returns-2
-    same-length-3
+    (λ c. search needs)
     returns-3)

@@ -1,6 +1,6 @@
 -- `judge::reading::matched` meets its contract: a start is some place of the starts. Assumes nothing.
 use borrow.Author.Needs.{needs}
-use Rattle.rows.proofs.Loops.{not-empty}
+use Rattle.cells.proofs.Loops.{not-empty}
 use Rattle.judge.proofs.reading.matched.Statement.{statement}
 use Rattle.judge.proofs.reading.matched.Tie as tie
 

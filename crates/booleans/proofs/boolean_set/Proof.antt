@@ -1,0 +1,29 @@
+-- `booleans::boolean_set` meets its contract: each arm makes the word that its kind asks for. Assumes nothing.
+use borrow.Author.Needs.{needs}
+use Rattle.booleans.proofs.boolean_set.Statement.{statement}
+use Rattle.booleans.proofs.boolean_set.Tie as tie
+
+pub boolean-set-spec : {M : Type 1} → statement M
+boolean-set-spec =
+    tie.close
+    (tie.spec
+    (λ c. search needs)
+    (λ c κs. search needs)
+    (λ c κs. search needs)
+    (λ c. search needs)
+    (λ c κs. let p = rw (c .before .op2 .given .1) at (c .before .before .before .before .before .pre) in search needs)
+    (λ c. search needs)
+    (λ c κs. let p = rw (c .before .op3 .given .1) at (c .before .before .before .before .before .pre) in search needs)
+    (λ c. search needs)
+    (λ c κs. let p = rw (c .before .op4 .given .1) at (c .before .before .before .before .before .pre) in search needs)
+    (λ c κs. let p = rw (c .before .before .op4 .given .1) at (c .before .before .before .before .before .before .pre) in search needs)
+    (λ c κs. search needs)
+    (λ c. search needs)
+    (λ c κs. let p = rw (c .before .op5 .given .1) at (c .before .before .before .before .before .pre) in search needs)
+    (λ c κs. let p = rw (c .before .before .op5 .given .1) at (c .before .before .before .before .before .before .pre) in search needs)
+    (λ c κs. search needs)
+    (λ c k. rw (c .before .before .before .op .given .1) (simp (c .only-if .ensures k, c .before .all-samples .ensures k)))
+    (λ c. rw (c .before .before .op2 .given .1) (c .signal-set .ensures))
+    (λ c. rw (c .before .before .op3 .given .1) (c .not-set .ensures))
+    (λ c k. rw (c .before .before .before .before .op4 .given .1) (simp (c .common .ensures k, c .before .word-at2 .ensures, c .before .before .word-at .ensures)))
+    (λ c k. rw (c .before .before .before .before .op5 .given .1) (simp (c .joined .ensures k, c .before .word-at4 .ensures, c .before .before .word-at3 .ensures))))

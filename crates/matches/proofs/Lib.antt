@@ -1,0 +1,4 @@
+-- Laws of the walks.
+pub mod Walking
+pub mod Covering
+pub mod Repeats

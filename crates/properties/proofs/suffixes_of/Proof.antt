@@ -1,0 +1,36 @@
+-- `properties::suffixes_of` meets its contract: each arm is its operator's words, and a clocked property has none. Assumes nothing.
+use borrow.Author.Needs.{needs}
+use Rattle.properties.proofs.suffixes_of.Statement.{statement}
+use Rattle.properties.proofs.suffixes_of.Tie as tie
+
+pub suffixes-of-spec : {M : Type 1} → statement M
+suffixes-of-spec =
+    tie.close
+    (tie.spec
+    (λ c. search needs)
+    (λ c κs. let p = rw (c .before .op .given .1) at (c .before .before .before .before .pre) in search needs)
+    (λ c. search needs)
+    (λ c κs. let p = rw (c .before .op2 .given .1) at (c .before .before .before .before .pre) in search needs)
+    (λ c. search needs)
+    (λ c κs. let p = rw (c .before .op3 .given .1) at (c .before .before .before .before .pre) in search needs)
+    (λ c. search needs)
+    (λ c κs. let p = rw (c .before .op4 .given .1) at (c .before .before .before .before .pre) in search needs)
+    (λ c. search needs)
+    (λ c κs. let p = rw (c .before .op5 .given .1) at (c .before .before .before .before .pre) in search needs)
+    (λ c. search needs)
+    (λ c κs. let p = rw (c .before .op6 .given .1) at (c .before .before .before .before .pre) in search needs)
+    (λ c. search needs)
+    (λ c κs. let p = rw (c .before .op7 .given .1) at (c .before .before .before .before .pre) in search needs)
+    (λ c. search needs)
+    (λ c κs. let p = rw (c .before .op8 .given .1) at (c .before .before .before .before .pre) in search needs)
+    (λ c. search needs)
+    (λ c κs. search needs)
+    (λ c. rw (c .before .before .op .given .1) (c .strong-of .ensures))
+    (λ c. rw (c .before .before .op2 .given .1) (c .weak-of .ensures))
+    (λ c. rw (c .before .before .op3 .given .1) (c .not-of .ensures))
+    (λ c. rw (c .before .before .op4 .given .1) (c .any-of .ensures))
+    (λ c. rw (c .before .before .op5 .given .1) (c .both-of .ensures))
+    (λ c. rw (c .before .before .op6 .given .1) (c .implies-of .ensures))
+    (λ c. rw (c .before .before .op7 .given .1) (c .next-of .ensures))
+    (λ c. rw (c .before .before .op8 .given .1) (c .until-of .ensures))
+    (λ c. rw (c .before .enum-told .given .1) (record { neutral = c .empty .ensures; weak = c .empty .ensures; strong = c .empty .ensures })))

@@ -1,0 +1,52 @@
+-- A property's three words as the code has them, and the shapes of the two loops that make them: over the starts, and by doubling. Assumes nothing.
+use mathlib.Core.Path.{_≡_}
+use mathlib.Core.Bool.{Bool, _||_, _&&_}
+use mathlib.Core.List.{List}
+use Prim.Native.Nat.{ℕ, _+_, _-_}
+use lib.Dec.{eqb, ltb}
+use Rattle.telling.specs.Tells.{some, every}
+use Rattle.meaning.specs.Words.{none, tops, bots}
+use Rattle.positions.specs.Member.{has, Is}
+use Rattle.nodes.specs.declared.PropertyOp.{PropertyOp}
+use Rattle.cells.specs.Shares.{wordIn}
+use Rattle.cells.specs.Bits.{follows, propertyBit}
+use Rattle.properties.specs.declared.Suffixes.{Suffixes}
+use Rattle.properties.specs.declared.untils.Led.{Led}
+
+-- the three sets are the words of row p
+pub record WordsAt (rows : List ℕ) (p : ℕ) (r : Suffixes) : Type 0 where
+  pub neutral : r .neutral .bits ≡ wordIn rows p 0
+  pub weak : r .weak .bits ≡ wordIn rows p 1
+  pub strong : r .strong .bits ≡ wordIn rows p 2
+
+-- the three sets are the words that the rules give an operator
+pub record Satisfying (rows : List ℕ) (n : ℕ) (op : PropertyOp) (r : Suffixes) : Type 0 where
+  pub neutral : Is (r .neutral .bits) (propertyBit rows n op none)
+  pub weak : Is (r .weak .bits) (propertyBit rows n op tops)
+  pub strong : Is (r .strong .bits) (propertyBit rows n op bots)
+
+-- the starts from which each match of row a has its last letter in the set, for each of three
+pub record Following (rows : List ℕ) (n a : ℕ) (p r : Suffixes) : Type 0 where
+  pub neutral : Is (r .neutral .bits) (follows rows n a (has (p .neutral .bits)))
+  pub weak : Is (r .weak .bits) (follows rows n a (has (p .weak .bits)))
+  pub strong : Is (r .strong .bits) (follows rows n a (has (p .strong .bits)))
+
+-- ---- P until Q by runs: those of P below n lead up to a place of Q below n or, where `last`, up to n
+
+pub record Begins (p q : ℕ) (last : Bool) (n : ℕ) (l : Led) : Type 0 where
+  pub runs : Is (l .runs .bits) (λ k. has p k && ltb k n)
+  pub out : Is (l .out .bits) (λ k. (has q k && ltb k n) || (last && eqb k n))
+
+-- runs of twice the length d
+pub record Further (l : Led) (d : ℕ) (r : Led) : Type 0 where
+  pub runs : Is (r .runs .bits) (λ k. has (l .runs .bits) k && has (l .runs .bits) (d + k))
+  pub out : Is (r .out .bits) (λ k. has (l .out .bits) k || (has (l .runs .bits) k && has (l .out .bits) (d + k)))
+
+-- the places from which a run, possibly of none, leads up to a place of l
+abbrev pub led : Led → ℕ → Bool
+led l i = some (λ j. has (l .out .bits) j && every (has (l .runs .bits)) i (j - i)) i 64
+
+pub record Leads (a b c : Led) (r : Suffixes) : Type 0 where
+  pub neutral : Is (r .neutral .bits) (led a)
+  pub weak : Is (r .weak .bits) (led b)
+  pub strong : Is (r .strong .bits) (led c)

@@ -1,0 +1,2 @@
+-- Laws of a sequence's row.
+pub mod Making

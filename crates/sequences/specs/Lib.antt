@@ -1,0 +1,2 @@
+-- What a sequence's row is.
+pub mod Made
