@@ -1,9 +1,10 @@
 // One line of the input: a case, a comment, blank, or none of these. A function that answers a bool answers whether the line is a case.
-use crate::answers;
 use crate::judging;
-use crate::lists;
-use crate::output;
-use crate::text;
+use crate::tables;
+use casetext::answers;
+use casetext::lists;
+use casetext::output;
+use casetext::text;
 
 // Runs the line and prints its answer.
 pub fn run(line: &[u8], short: bool) {
@@ -108,5 +109,5 @@ fn rewrite_table(text: &[u8], bytes: &[u8], short: bool) -> bool {
 fn rewrite_into(label: &[u8], bytes: &[u8], out: &mut [u8], short: bool) {
     output::fill(out);
     let got = rewrite::rewrite(bytes, out);
-    answers::rewriting(label, got.verdict, got.count, out, short);
+    tables::rewriting(label, got.verdict, got.count, out, short);
 }

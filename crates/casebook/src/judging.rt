@@ -1,8 +1,8 @@
 // The cases of the judge and of match ends: a table, samples, and the words that are lent. A function that answers a bool answers whether the line is a case.
-use crate::answers;
-use crate::lists;
-use crate::shares;
-use crate::text;
+use casetext::answers;
+use casetext::lists;
+use casetext::shares;
+use casetext::text;
 use judge::judge;
 use judge::match_ends;
 
@@ -83,14 +83,20 @@ fn ask(
 ) {
     shares::fill(words);
     match question {
-        Question::Level => answers::judgement(label, judge(table, samples, words), words, short),
-        Question::Ends(start) => {
-            answers::ends(
+        Question::Level => {
+            let got = judge(table, samples, words);
+            answers::judgement(
                 label,
-                match_ends(table, samples, start, words),
+                got.verdict,
+                got.level.number,
+                got.tested,
                 words,
                 short,
-            )
+            );
+        }
+        Question::Ends(start) => {
+            let got = match_ends(table, samples, start, words);
+            answers::ends(label, got.verdict, got.mask.bits, got.top, words, short);
         }
     }
 }

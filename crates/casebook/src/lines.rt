@@ -1,6 +1,6 @@
 // Taking lines from standard input, piece by piece.
-use crate::answers;
 use crate::case;
+use casetext::answers;
 use libc::STDIN_FILENO;
 
 // How many bytes of the present line are kept, and whether there is more to read.

@@ -1,11 +1,16 @@
-// A table in the bytes that were lent, its nodes as document 01 writes them: 3(1,0) has operator 3, x 1 and y 0.
-use crate::output::put_bytes;
-use crate::print::put;
-use crate::print::put_number;
+// What rewriting answered: a table in the bytes that were lent, its nodes as document 01 writes them: 3(1,0) has operator 3, x 1 and y 0.
+use casetext::answers::accepted;
+use casetext::answers::put_count;
+use casetext::answers::put_label;
+use casetext::output::put_bytes;
+use casetext::print::put;
+use casetext::print::put_number;
+use casetext::short::put_digits;
 use nodes::Raw;
 use nodes::node_at;
 use nodes::operators::NONE;
 use nodes::operators::row_of;
+use refusal::Verdict;
 ghost use Prim.Native.Nat.{_+_, _*_, _≤_};
 ghost use lib.ListN.{length};
 
@@ -45,7 +50,7 @@ fn put_nodes(out: &[u8], count: usize)
 }
 
 // The heading, so many nodes, and the bytes after them. Where the bytes are too few for so many, no byte is taken for a node.
-pub fn put_table(out: &[u8], count: usize) {
+fn put_table(out: &[u8], count: usize) {
     if count > 120 {
         put_bytes(out, 0);
         return;
@@ -58,4 +63,24 @@ pub fn put_table(out: &[u8], count: usize) {
     put_bytes(&out[0..6], 0);
     put_nodes(out, count);
     put_bytes(out, end);
+}
+
+// After an acceptance the bytes begin with a table.
+fn put_output(v: Verdict, count: usize, out: &[u8], short: bool) {
+    if short {
+        put_digits(out);
+    } else if accepted(v) {
+        put_table(out, count);
+    } else {
+        put_bytes(out, 0);
+    }
+}
+
+// What rewriting a table answered, and the bytes that were lent.
+pub fn rewriting(label: &[u8], v: Verdict, count: usize, out: &[u8], short: bool) {
+    put_label(label);
+    put_count(v, count, b" nodes");
+    put(b", bytes");
+    put_output(v, count, out, short);
+    put(b"\n");
 }

@@ -8,7 +8,7 @@ use mathlib.Core.Logic.{_⊎_, _↔_}
 use mathlib.Core.List.{List, [], _∷_, _++_}
 use Prim.Native.Nat.{ℕ, zero, _*_, _-_, _≤_}
 use lib.Dec.{T}
-use lib.ListN.{length}
+use lib.ListN.{length, drop}
 use Rattle.telling.specs.Tells.{Tells}
 use Rattle.telling.proofs.Telling.{is-map, is-like, same-test}
 use Rattle.positions.proofs.Laws.{ext}
@@ -42,9 +42,9 @@ use Rattle.judge.specs.declared.Judgement.{Judgement}
 use Rattle.judge.specs.declared.MatchEnds.{MatchEnds}
 use Rattle.judge.specs.Tested.{Tested}
 use Rattle.judge.specs.Rows.{Onward, Filled}
-use Rattle.judge.specs.Refusals.{wrongRoot, judgeRefusals, endsRefusals}
+use Rattle.settling.specs.Refusals.{wrongRoot, judgeRefusals, endsRefusals}
 use Rattle.judge.specs.Judges.{Judges, EndsMatches}
-use Rattle.judge.proofs.Passing.{judgeRest, endsRest, judge-passes, ends-passes, own-parts, table-checks, same-clocks, new-keeps, new-accepted, count-is-new, few-nodes}
+use Rattle.settling.proofs.Passing.{judgeRest, endsRest, judge-passes, ends-passes, own-parts, table-checks, same-clocks, new-keeps, new-accepted, count-is-new, few-nodes}
 use Rattle.judge.proofs.Stepping.{ends-inside}
 use Rattle.judge.proofs.Unique.{judge-singles, ends-singles}
 
@@ -139,6 +139,7 @@ module _ (s xs d : List ℕ) (start : ℕ) (r : MatchEnds) (d′ : List ℕ) (j 
 
     -- the root's word at the start, and bit start of word 64
     pub ends-in-the-rows : (r .mask .bits ≡ wordIn d′ (newCount s clock - 1) start) × (r .top ≡ bitIn d′ (newCount s clock - 1) topWord start)
+    unfolding endsRefusals Check.refusals
     ends-in-the-rows =
         let x = wrongRoot s property in
         let rest = endsRest s (length xs) start (length d) in
@@ -215,7 +216,7 @@ module _ (s xs d : List ℕ) (r : Judgement) (d′ : List ℕ) (j : Judges s xs 
   module _ (e : List ℕ) (q : Judgement) (e′ : List ℕ) (k : Judges (newTable s clock) xs e q e′) where
     -- accepts it, where the workspace is large enough,
     pub rewritten-accepted : share * newCount s clock ≤ length e → q .verdict .number ≡ 0
-    unfolding judgeRefusals
+    unfolding judgeRefusals Check.refusals
     rewritten-accepted room =
         let t = newTable s clock in
         let x = wrongRoot s sequence in
@@ -229,7 +230,7 @@ module _ (s xs d : List ℕ) (r : Judgement) (d′ : List ℕ) (j : Judges s xs 
         let same = same-count t built (keeps .clockless) in
         let (P, a, _) = j .accepted z .level in
         judge-accepts t xs e q e′ k
-        (not-given-join (Check.refusals t) _ (checks-given t accepted c refl) (
+        (not-given-join (Check.refusals t) (drop 9 (judgeRefusals t (length xs) (length e))) (checks-given t accepted c refl) (
           λ i g. let some = built .some in let (q, f) = sequence-in t (count t) (built .fit) (count t) (root t) (omega arith) (omega arith) (g .1) in not-both f (keeps .property P a),
           (λ i g. let (other, right′, l) = g .1 in let h = same other right′ in omega arith, (λ i g. own-parts s x rest n .1 .1 .0 0 (refl, g .1), (λ i g. let (other, right′, l) = g .1 in let h = same other right′ in omega arith, tt))),
         )) .0

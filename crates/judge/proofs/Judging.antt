@@ -1,19 +1,21 @@
 -- Where nothing is refused: what is known of the rewritten table, and what is read off its rows. Assumes nothing.
 use native.Mathlib.Omega.{arith}
 use native.Mathlib.Nat.{le-of-suc-le-suc, lt-of-not-le}
+use mir.Syntax.{w64}
+use mir.Val as M
 use mathlib.Core.Path.{_≡_, refl, _∙_, sym, ap, subst}
-use mathlib.Core.Logic.{_⊎_, ⊎-elim}
+use mathlib.Core.Logic.{_⊎_, inl, inr, ⊎-elim}
 use mathlib.Core.Bool.{Bool, false}
-use mathlib.Core.List.{List, [], _∷_, _++_}
+use mathlib.Core.List.{List, _∷_, _++_}
 use Prim.Native.Nat.{ℕ, _+_, _*_, _-_, _<_, _≤_}
-use lib.ListN.{length, take}
+use lib.ListN.{length, take, drop}
 use Rattle.telling.specs.Tells.{Tells}
 use Rattle.telling.proofs.Telling.{is-map, is-as}
 use Rattle.positions.specs.declared.PositionSet.{PositionSet}
 use Rattle.positions.specs.Member.{has, Is}
 use Rattle.positions.proofs.Laws.{has-none, unique}
 use Rattle.refusal.specs.declared.Verdict.{Verdict}
-use Rattle.refusal.specs.First.{Answers, NotGiven}
+use Rattle.refusal.specs.First.{Refusal, Answers, NotGiven}
 use Rattle.refusal.specs.Heading.{count}
 use Rattle.refusal.specs.Computed.{accepted}
 use Rattle.refusal.proofs.Given.{none-given, answers-after}
@@ -41,12 +43,14 @@ use Rattle.rewrite.specs.Rewrites.{OfClocks, tooMany}
 use Rattle.rewrite.specs.Keeps.{Keeps}
 use Rattle.cells.specs.Shares.{share, longest, topWord, wordIn, bitIn, HasRow}
 use Rattle.rows.specs.Rows.{filled, Fits}
+use Rattle.readout.specs.Computed.{levelIn, testedIn, Testing}
 use Rattle.judge.specs.Tested.{Tested}
 use Rattle.judge.specs.Rows.{Onward, Filled}
-use Rattle.judge.specs.Refusals.{wrongRoot, tooLong, startAbove, tooSmall, judgeRefusals, endsRefusals}
+use Rattle.settling.specs.Refusals.{wrongRoot, judgeRefusals, endsRefusals}
+use Rattle.settling.specs.Computed.{ownRefusals, settling, Settles}
 use Rattle.judge.specs.Judges.{Rowed, Judges, EndsMatches}
-use Rattle.judge.specs.Computed.{settling, Settles, levelIn, testedIn, Testing}
-use Rattle.judge.proofs.Passing.{endsRest, own-parts, table-built, few-nodes, count-is-new, new-keeps, new-accepted}
+use Rattle.judge.specs.Computed.{Lays}
+use Rattle.settling.proofs.Passing.{endsRest, own-parts, table-built, few-nodes, count-is-new, new-keeps, new-accepted}
 use Rattle.judge.proofs.Stepping.{ends-inside}
 use Rattle.judge.proofs.Meaning.{rows-ready, rows-mean}
 use Rattle.judge.proofs.Testing.{tested-means, testing}
@@ -55,32 +59,43 @@ use Rattle.judge.proofs.Testing.{tested-means, testing}
 
 -- a start of 0 is not above n: 14 is not given
 judge-answer : (s : List ℕ) (n words : ℕ) (v : Verdict) → Answers (settling s sequence n 0 words) v → Answers (judgeRefusals s n words) v
-unfolding settling judgeRefusals Answers
-judge-answer s n words v =
-    answers-after (Check.refusals s) (wrongRoot s sequence ∷ tooMany s ∷ tooLong n ∷ startAbove n 0 ∷ tooSmall s words ∷ []) (wrongRoot s sequence ∷ tooMany s ∷ tooLong n ∷ tooSmall s words ∷ []) v
-    (λ _. answers-after (wrongRoot s sequence ∷ tooMany s ∷ tooLong n ∷ []) (startAbove n 0 ∷ tooSmall s words ∷ []) (tooSmall s words ∷ []) v (λ _. ⊎-elim (λ a. absurd (let l = a .1 .1 in omega arith)) (λ a. a .1)))
+unfolding settling judgeRefusals endsRefusals Check.refusals Answers
+judge-answer s n words v = answers-after (Check.refusals s) (ownRefusals s sequence n 0 words) (drop 9 (judgeRefusals s n words)) v (λ _. own)
+  where
+    own : Answers (ownRefusals s sequence n 0 words) v → Answers (drop 9 (judgeRefusals s n words)) v
+    own (inl a) = inl a
+    own (inr (root, inl a)) = inr (root, inl a)
+    own (inr (root, inr (few, inl a))) = inr (root, inr (few, inl a))
+    own (inr (root, inr (few, inr (short, inl (_, (_, l)))))) = absurd (omega arith)
+    own (inr (root, inr (few, inr (short, inr (_, a))))) = inr (root, inr (few, inr (short, a)))
 
 ends-answer : (s : List ℕ) (n start words : ℕ) (v : Verdict) → Answers (settling s property n start words) v → Answers (endsRefusals s n start words) v
-unfolding settling endsRefusals
+unfolding settling endsRefusals Check.refusals
 ends-answer s n start words v a = a
 
 -- a refusal: nothing is changed
-pub judge-refused : (s xs d : List ℕ) (r : Rewriting) (new : List ℕ) → Settles s sequence (length xs) 0 (length d) r new → ¬ (r .verdict .number ≡ 0)
-    → Judges s xs d (record { verdict = r .verdict; level = record { number = 0 }; tested = false }) d
-judge-refused s xs d r new w z =
-    record { answer = judge-answer s (length xs) (length d) (r .verdict) (w .answer); accepted = λ y. absurd (z y); refused = λ _. (refl, refl, refl) }
-
-pub ends-refused : (s xs d : List ℕ) (start : ℕ) (r : Rewriting) (new : List ℕ) → Settles s property (length xs) start (length d) r new → ¬ (r .verdict .number ≡ 0)
-    → (mask : PositionSet) → Is (mask .bits) (λ k. false) → EndsMatches s xs d start (record { verdict = r .verdict; mask = mask; top = false }) d
-ends-refused s xs d start r new w z mask em = record {
-  answer = ends-answer s (length xs) start (length d) (r .verdict) (w .answer);
+pub judge-refused : (s xs d lent : List ℕ) (r : Rewriting) (new d′ : List ℕ) → Lays s sequence xs 0 d lent r new d′ → ¬ (r .verdict .number ≡ 0)
+    → Judges s xs d (record { verdict = r .verdict; level = record { number = 0 }; tested = false }) d′
+judge-refused s xs d lent r new d′ w z = record {
+  answer = judge-answer s (length xs) (length d) (r .verdict) (w .settles .answer);
   accepted = λ y. absurd (z y);
-  refused = λ _. (unique (mask .bits) 0 (λ k. false) em has-none, refl, refl);
+  refused = λ _. (refl, refl, w .stays z);
+}
+
+pub ends-refused : (s xs d : List ℕ) (start : ℕ) (lent : List ℕ) (r : Rewriting) (new d′ : List ℕ) → Lays s property xs start d lent r new d′ → ¬ (r .verdict .number ≡ 0)
+    → (mask : PositionSet) → Is (mask .bits) (λ k. false) → EndsMatches s xs d start (record { verdict = r .verdict; mask = mask; top = false }) d′
+ends-refused s xs d start lent r new d′ w z mask em = record {
+  answer = ends-answer s (length xs) start (length d) (r .verdict) (w .settles .answer);
+  accepted = λ y. absurd (z y);
+  refused = λ _. (unique (mask .bits) 0 (λ k. false) em has-none, refl, w .stays z);
 }
 
 -- ---- an acceptance
 
-module _ (s : List ℕ) (wrong n start words : ℕ) (r : Rewriting) (new : List ℕ) (w : Settles s wrong n start words r new) (z : r .verdict .number ≡ 0) where
+module _ (s : List ℕ) (wrong n start words : ℕ) (lent : List ℕ) (r : Rewriting) (new : List ℕ) (w : Settles s wrong n start words lent r new) (z : r .verdict .number ≡ 0) where
+  abbrev rest : List Refusal
+  rest = endsRest s n start words
+
   -- the rewritten table
   abbrev t : List ℕ
   t = take (4 * r .count + 6) new
@@ -98,43 +113,46 @@ module _ (s : List ℕ) (wrong n start words : ℕ) (r : Rewriting) (new : List 
   table-is = w .accepted z .2 .1
 
   -- no refusal is given: of each, the contrary holds
-  none-applies : NotGiven (Check.refusals s ++ (wrongRoot s wrong ∷ tooMany s ∷ endsRest s n start words))
-  unfolding settling Check.refusals
+  none-applies : NotGiven (Check.refusals s ++ (wrongRoot s wrong ∷ tooMany s ∷ rest))
+  unfolding settling endsRefusals Check.refusals
   none-applies = none-given (settling s wrong n start words) tt (r .verdict) z (w .answer) .0
 
-  own : NotGiven (wrongRoot s wrong ∷ tooMany s ∷ endsRest s n start words)
-  own = own-parts s (wrongRoot s wrong) (endsRest s n start words) none-applies
+  own : NotGiven (wrongRoot s wrong ∷ tooMany s ∷ rest)
+  own = own-parts s (wrongRoot s wrong) rest none-applies
 
   built : Built s
-  built = table-built s (wrongRoot s wrong) (endsRest s n start words) none-applies
+  built = table-built s (wrongRoot s wrong) rest none-applies
 
   other-root : ¬ (sortAt s (root s) ≡ wrong)
   other-root e = own .0 0 (refl, e)
 
   pub few : r .count ≤ 120
-  few = rw counted (few-nodes s (wrongRoot s wrong) (endsRest s n start words) none-applies clock right)
+  few = rw counted (few-nodes s (wrongRoot s wrong) rest none-applies clock right)
 
   not-long : n ≤ longest
+  unfolding endsRefusals Check.refusals
   not-long = le-of-suc-le-suc (lt-of-not-le (λ g. own .1 .1 .0 0 (refl, g)))
 
   not-above : start ≤ n
+  unfolding endsRefusals Check.refusals
   not-above = le-of-suc-le-suc (lt-of-not-le (λ g. own .1 .1 .1 .0 0 (refl, g)))
 
   pub start-short : start ≤ longest
   start-short = let l = not-long in let h = not-above in omega arith
 
   not-small : share * r .count ≤ words
+  unfolding endsRefusals Check.refusals
   not-small = le-of-suc-le-suc (lt-of-not-le (λ g. own .1 .1 .1 .1 .0 0 (refl, (clock, right, rw (← counted) g))))
 
   -- the new table is accepted too, has no clocks and says the same
   keeps : Keeps s t
-  keeps = subst (Keeps s) (sym table-is) (new-keeps s (wrongRoot s wrong) (endsRest s n start words) none-applies clock right)
+  keeps = subst (Keeps s) (sym table-is) (new-keeps s (wrongRoot s wrong) rest none-applies clock right)
 
   count-is : count t ≡ r .count
-  count-is = ap count table-is ∙ count-is-new s (wrongRoot s wrong) (endsRest s n start words) none-applies clock right ∙ sym counted
+  count-is = ap count table-is ∙ count-is-new s (wrongRoot s wrong) rest none-applies clock right ∙ sym counted
 
   new-checks : Checks t accepted
-  new-checks = subst (λ (u : List ℕ). Checks u accepted) (sym table-is) (new-accepted s (wrongRoot s wrong) (endsRest s n start words) none-applies clock right)
+  new-checks = subst (λ (u : List ℕ). Checks u accepted) (sym table-is) (new-accepted s (wrongRoot s wrong) rest none-applies clock right)
 
   new-built : Built t
   new-built = sound t accepted new-checks refl .formed
@@ -144,6 +162,15 @@ module _ (s : List ℕ) (wrong n start words : ℕ) (r : Rewriting) (new : List 
 
   pub used-bytes : 4 * r .count + 6 ≡ length t
   used-bytes = let c = count-is in let l = new-built .long in omega arith
+
+  pub four-fit : M.Fits w64 (4 * r .count)
+  four-fit = let l = few in record { fits = omega arith }
+
+  pub used-fit : M.Fits w64 (4 * r .count + 6)
+  used-fit = let l = few in record { fits = omega arith }
+
+  pub used-within : 4 * r .count + 6 ≤ 486
+  used-within = let l = few in omega arith
 
   -- its last node is the root
   last-is : r .count - 1 ≡ root t
@@ -195,10 +222,10 @@ module _ (s : List ℕ) (wrong n start words : ℕ) (r : Rewriting) (new : List 
       rowed : Rowed s xs d d′
       rowed = (clock, right, subst (λ (u : List ℕ). Filled u xs d d′) table-is rows)
 
-      pub root-row : HasRow (length d′) (r .count - 1)
+      root-row : HasRow (length d′) (r .count - 1)
       root-row = let l = rows .long in let h = enough in let c = some in let k = count-is in omega arith
 
-      pub implies-rows : Testing t (length xs) d′ (r .count)
+      implies-rows : Testing t (length xs) d′ (r .count)
       implies-rows = subst (Testing t (length xs) d′) count-is (testing t xs d d′ new-built short rows (let l = rows .long in let h = enough in omega arith))
 
       -- what the root's row says of the root of s, clocks and all
@@ -231,31 +258,46 @@ module _ (s : List ℕ) (wrong n start words : ℕ) (r : Rewriting) (new : List 
             rw last-is (is-map (row .on start within) (λ m. (m .0, m .1, same (word xs tops) start (m .0) .1 (m .2))) (λ m. (m .0, m .1, same (word xs tops) start (m .0) .0 (m .2)))),
           )
 
--- what the judge and match ends answer, with the rows filled
+-- what the judge and match ends ask of the rows that are laid, and what they answer
 
-pub judge-accepted : (s xs d : List ℕ) (r : Rewriting) (new : List ℕ) → Settles s sequence (length xs) 0 (length d) r new → r .verdict .number ≡ 0
-    → (d′ : List ℕ) → d′ ≡ filled (take (4 * r .count + 6) new) xs d (r .count) → (level : Level) → level .number ≡ levelIn d′ (r .count - 1)
-    → (b : Bool) → b ≡ testedIn (take (4 * r .count + 6) new) (length xs) d′ (r .count)
+module _ (s : List ℕ) (wrong : ℕ) (xs : List ℕ) (start : ℕ) (d lent : List ℕ) (r : Rewriting) (new d′ : List ℕ) (w : Lays s wrong xs start d lent r new d′) (z : r .verdict .number ≡ 0) where
+  pub laid-root : HasRow (length d′) (r .count - 1)
+  laid-root = root-row s wrong (length xs) start (length d) lent r new (w .settles) z xs d refl refl d′ (w .rows z)
+
+  pub laid-tested : Testing (take (4 * r .count + 6) new) (length xs) d′ (r .count)
+  laid-tested = implies-rows s wrong (length xs) start (length d) lent r new (w .settles) z xs d refl refl d′ (w .rows z)
+
+pub judge-accepted : (s xs d lent : List ℕ) (r : Rewriting) (new d′ : List ℕ) → Lays s sequence xs 0 d lent r new d′ → r .verdict .number ≡ 0
+    → (level : Level) → level .number ≡ levelIn d′ (r .count - 1) → (b : Bool) → b ≡ testedIn (take (4 * r .count + 6) new) (length xs) d′ (r .count)
     → Judges s xs d (record { verdict = r .verdict; level = level; tested = b }) d′
-judge-accepted s xs d r new w z d′ e level el b eb = record {
-  answer = judge-answer s (length xs) (length d) (r .verdict) (w .answer);
+judge-accepted s xs d lent r new d′ w z level el b eb = record {
+  answer = judge-answer s (length xs) (length d) (r .verdict) (w .settles .answer);
   accepted = λ _. record {
-    level = let (P, a, l) = level-right s sequence (length xs) 0 (length d) r new w z xs d refl refl d′ e refl in (P, a, rw el l);
-    tested = tested-right s sequence (length xs) 0 (length d) r new w z xs d refl refl d′ e b eb;
-    rows = rowed s sequence (length xs) 0 (length d) r new w z xs d refl refl d′ e;
+    level = let (P, a, l) = level-right s sequence (length xs) 0 (length d) lent r new (w .settles) z xs d refl refl d′ (w .rows z) refl in (P, a, rw el l);
+    tested = tested-right s sequence (length xs) 0 (length d) lent r new (w .settles) z xs d refl refl d′ (w .rows z) b eb;
+    rows = rowed s sequence (length xs) 0 (length d) lent r new (w .settles) z xs d refl refl d′ (w .rows z);
   };
   refused = λ y. absurd (y z);
 }
 
-pub ends-accepted : (s xs d : List ℕ) (start : ℕ) (r : Rewriting) (new : List ℕ) → Settles s property (length xs) start (length d) r new → r .verdict .number ≡ 0
-    → (d′ : List ℕ) → d′ ≡ filled (take (4 * r .count + 6) new) xs d (r .count)
+pub ends-accepted : (s xs d : List ℕ) (start : ℕ) (lent : List ℕ) (r : Rewriting) (new d′ : List ℕ) → Lays s property xs start d lent r new d′ → r .verdict .number ≡ 0
     → (mask : PositionSet) → mask .bits ≡ wordIn d′ (r .count - 1) start → (w : ℕ) → w ≡ wordIn d′ (r .count - 1) topWord → (top : Bool) → top ≡ has w start
     → EndsMatches s xs d start (record { verdict = r .verdict; mask = mask; top = top }) d′
-ends-accepted s xs d start r new w z d′ e mask em v ev top et = record {
-  answer = ends-answer s (length xs) start (length d) (r .verdict) (w .answer);
+ends-accepted s xs d start lent r new d′ w z mask em v ev top et = record {
+  answer = ends-answer s (length xs) start (length d) (r .verdict) (w .settles .answer);
   accepted = λ _. record {
-    ends = let (q, a, m, t) = ends-right s property (length xs) start (length d) r new w z xs d refl refl d′ e refl in (q, a, rw em m, is-as (et ∙ ap (λ (x : ℕ). has x start) ev) t);
-    rows = rowed s property (length xs) start (length d) r new w z xs d refl refl d′ e;
+    ends = let (q, a, m, t) = ends-right s property (length xs) start (length d) lent r new (w .settles) z xs d refl refl d′ (w .rows z) refl in (q, a, rw em m, is-as (et ∙ ap (λ (x : ℕ). has x start) ev) t);
+    rows = rowed s property (length xs) start (length d) lent r new (w .settles) z xs d refl refl d′ (w .rows z);
   };
   refused = λ y. absurd (y z);
 }
+
+-- ---- laying
+
+pub lays-refused : (s : List ℕ) (wrong : ℕ) (xs : List ℕ) (start : ℕ) (d lent : List ℕ) (r : Rewriting) (new : List ℕ) → Settles s wrong (length xs) start (length d) lent r new
+    → ¬ (r .verdict .number ≡ 0) → Lays s wrong xs start d lent r new d
+lays-refused s wrong xs start d lent r new w z = record { settles = w; rows = λ y. absurd (z y); stays = λ _. refl }
+
+pub lays-rows : (s : List ℕ) (wrong : ℕ) (xs : List ℕ) (start : ℕ) (d lent : List ℕ) (r : Rewriting) (new d′ : List ℕ) → Settles s wrong (length xs) start (length d) lent r new
+    → r .verdict .number ≡ 0 → d′ ≡ filled (take (4 * r .count + 6) new) xs d (r .count) → Lays s wrong xs start d lent r new d′
+lays-rows s wrong xs start d lent r new d′ w z e = record { settles = w; rows = λ _. e; stays = λ y. absurd (y z) }

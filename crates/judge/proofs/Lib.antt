@@ -1,5 +1,3 @@
--- Refusals.
-pub mod Refusing
 -- What the rows mean: the meaning one step at a time, the rows of each sort, all rows of a table, and that no other rows mean the same.
 pub mod WordBits
 pub mod Stepping
@@ -9,7 +7,6 @@ pub mod PropertyRows
 pub mod Meaning
 pub mod Same
 -- What is read off them, and that no other answer fits.
-pub mod Passing
 pub mod Testing
 pub mod Judging
 pub mod Unique

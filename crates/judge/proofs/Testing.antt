@@ -1,17 +1,14 @@
--- Whether a table was tested, asked node by node. Assumes nothing.
-use mathlib.Core.Path.{_≡_, refl, _∙_, sym, ap, subst}
+-- What is read off the rows tells whether the table was tested. Assumes nothing.
+use mathlib.Core.Path.{_≡_, sym, ap, subst}
 use mathlib.Core.Logic.{inl, inr, ⊎-elim}
-use mathlib.Core.Bool.{Bool, true, false, not, _||_, _&&_}
+use mathlib.Core.Bool.{true}
 use mathlib.Core.List.{List}
-use Prim.Native.Nat.{ℕ, _+_, _*_, _<_, _≤_}
+use Prim.Native.Nat.{ℕ, _*_, _<_, _≤_}
 use native.Mathlib.Omega.{arith}
-use native.Mathlib.Nat.{le-antisymm}
 use borrow.Author.Tests.{eqb-true, eq-eqb}
-use native.Mathlib.Numerals.{add-one}
-use lib.Dec.{eqb}
 use lib.ListN.{length}
 use Rattle.telling.specs.Tells.{Tells, some}
-use Rattle.telling.proofs.Telling.{some-next, passes, is-and, is-test, passed, is-map, is-and-then, is-or, is-not, is-some, is-le}
+use Rattle.telling.proofs.Telling.{passes, passed, is-map, is-and-then, is-or, is-not, is-some, is-le}
 use Rattle.refusal.specs.Heading.{count}
 use Rattle.meaning.specs.Syntax.{Seq}
 use Rattle.nodes.specs.declared.Raw.{Raw}
@@ -25,45 +22,13 @@ use Rattle.nodes.proofs.Shapes.{down}
 use Rattle.table.proofs.Standing.{sequence-in}
 use Rattle.table.proofs.Reading.{uniqueS}
 use Rattle.nodes.proofs.Built.{Built}
-use Rattle.cells.specs.Shares.{share, longest, wordIn, HasRow}
+use Rattle.cells.specs.Shares.{share, longest, wordIn}
 use Rattle.cells.specs.Bits.{starts}
+use Rattle.readout.specs.Computed.{isImplies, impliesMatched, testedIn, Testing}
 use Rattle.judge.specs.Tested.{ImpliesAt, Matched, Tested}
 use Rattle.judge.specs.Rows.{Inside, SequenceRow, Filled}
 use Rattle.judge.proofs.Stepping.{ends-inside}
 use Rattle.judge.proofs.SequenceRows.{longer-tells}
-use Rattle.judge.specs.Computed.{isImplies, impliesMatched, testedIn, Testing}
-
--- what was met once is not asked again
-once : (m a b : Bool) → (m || ((a && not m) && b)) ≡ (m || (a && b))
-once true a b = refl
-once false true b = refl
-once false false b = refl
-
-module _ (t : List ℕ) (n : ℕ) (ws : List ℕ) where
-  -- what the nodes below k have shown
-  pub record Seen (k : ℕ) (a b : Bool) : Type 0 where
-    pub asked : a ≡ some (isImplies t) 0 k
-    pub met : b ≡ some (impliesMatched t n ws) 0 k
-
-  pub none-seen : Seen 0 false false
-  unfolding some
-  none-seen = record { asked = refl; met = refl }
-
-  pub one-seen : (k : ℕ) (asked met : Bool) (v : Raw) (x : ℕ) (here : Bool) → Seen k asked met → v ≡ rawAt t k → x ≡ v .x
-      → here ≡ ((eqb (v .op) 37 && not met) && some (starts ws n x) 0 64) → Seen (k + 1) (asked || eqb (v .op) 37) (met || here)
-  one-seen k asked met v x here s ev ex eh = record {
-    asked = rw (s .asked, ev, add-one k) (some-next (isImplies t) k);
-    met = ap (λ b. met || b) eh ∙ once met (eqb (v .op) 37) (some (starts ws n x) 0 64) ∙ rw (s .met, ex, ev, add-one k) (some-next (impliesMatched t n ws) k);
-  }
-
-  pub row-there : (m k : ℕ) → Testing t n ws m → k < m → (v : Raw) (x : ℕ) → v ≡ rawAt t k → x ≡ v .x → (met : Bool) → (eqb (v .op) 37 && not met) ≡ true → HasRow (length ws) x
-  row-there m k h l v x ev ex met e = rw (ex, ev) (h .rows k l (passes (is-and (is-test (isImplies t k)) (is-test (not met)) .to (passed (rw ev at e)) .0)))
-
-  pub all-seen : (k m : ℕ) (asked met : Bool) → Seen k asked met → k ≤ m → m ≤ k → (not asked || met) ≡ testedIn t n ws m
-  unfolding testedIn
-  all-seen k m asked met s u v = rw (s .asked, s .met, le-antisymm u v)
-
--- ---- what it means
 
 -- the bytes of a well-formed node say whether it is a `|->`, and of which sequence
 module _ (t : List ℕ) (k : ℕ) (fit : WellFormed t k) where

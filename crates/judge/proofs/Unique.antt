@@ -24,9 +24,9 @@ use Rattle.rewrite.specs.Rewrites.{OfClocks, tooMany}
 use Rattle.judge.specs.declared.Judgement.{Judgement}
 use Rattle.judge.specs.declared.MatchEnds.{MatchEnds}
 use Rattle.judge.specs.Rows.{Onward}
-use Rattle.judge.specs.Refusals.{judgeRefusals, endsRefusals}
+use Rattle.settling.specs.Refusals.{judgeRefusals, endsRefusals}
 use Rattle.judge.specs.Judges.{Rowed, Judged, Judges, Ended, EndsMatches}
-use Rattle.judge.proofs.Passing.{judgeRest, endsRest, judge-passes, ends-passes, table-checks, same-clocks, new-accepted}
+use Rattle.settling.proofs.Passing.{judgeRest, endsRest, judge-passes, ends-passes, table-checks, same-clocks, new-accepted}
 use Rattle.judge.proofs.Same.{filled-unique}
 
 -- ---- verdicts

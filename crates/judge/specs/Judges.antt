@@ -13,11 +13,11 @@ use Rattle.meaning.specs.Signal.{signal}
 use Rattle.table.specs.Trees.{RootS, RootP}
 use Rattle.writing.specs.Tables.{newTable}
 use Rattle.rewrite.specs.Rewrites.{OfClocks}
+use Rattle.settling.specs.Refusals.{judgeRefusals, endsRefusals}
 use Rattle.judge.specs.declared.Judgement.{Judgement}
 use Rattle.judge.specs.declared.MatchEnds.{MatchEnds}
 use Rattle.judge.specs.Tested.{Tested}
 use Rattle.judge.specs.Rows.{Onward, Filled}
-use Rattle.judge.specs.Refusals.{judgeRefusals, endsRefusals}
 
 -- the workspace has the rows of the rewritten table
 abbrev pub Rowed : List ℕ → List ℕ → List ℕ → List ℕ → Type 0

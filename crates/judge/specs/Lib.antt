@@ -1,7 +1,6 @@
--- What the judge and match ends answer and leave, in the page's order.
+-- What the judge and match ends answer and leave, in the page's order. What they refuse stands in `settling`.
 pub mod Tested
 pub mod Rows
-pub mod Refusals
 pub mod Judges
 -- What the code is held to on the way there.
 pub mod Computed

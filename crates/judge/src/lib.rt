@@ -1,19 +1,20 @@
 // The judge and match ends: refusals first, all before the first write, and then the rows of the rewritten table and what is read off them.
-mod reading;
-mod settling;
-
 use cells::TOP_WORD;
 use cells::word_at;
 use meaning::Level;
 use nodes::operators::PROPERTY;
 use nodes::operators::SEQUENCE;
 use positions::PositionSet;
-use reading::level_of;
-use reading::tested;
+use readout::level_of;
+use readout::tested;
 use refusal::Verdict;
+use rewrite::Rewriting;
 use rows::fill;
 use settling::settle;
+ghost use mathlib.Core.Path.{_≡_};
+ghost use lib.ListN.{length};
 ghost use Rattle.judge.specs.Judges.{Judges, EndsMatches};
+ghost use Rattle.judge.specs.Computed.{Lays};
 
 // What the judge answers.
 #[repr(C)]
@@ -31,13 +32,37 @@ pub struct MatchEnds {
     pub top: bool,
 }
 
+// Settles a call, where `wrong` is the sort that the root must not have; with no refusal, leaves the rows of the rewritten table in the workspace, and that
+// table in the first bytes of `new`.
+fn lay(
+    table: &[u8],
+    wrong: u8,
+    samples: &[u64],
+    start: usize,
+    ws: &mut [u64],
+    new: &mut [u8],
+) -> Rewriting
+    requires { ⌜ length (now new) ≡ 486 ⌝ }
+    ensures { λ r. ⌜ Lays (now (table .entry)) wrong (now (samples .entry)) start (now (ws .entry)) (now (new .entry)) r (now (new .exit)) (now (ws .exit)) ⌝ }
+{
+    let settled = settle(table, wrong, samples.len(), start, ws.len(), new);
+    let verdict = settled.verdict;
+    if verdict.number != 0 {
+        return settled;
+    }
+    let m = settled.count;
+    let used = 4 * m + 6;
+    fill(&new[..used], samples, ws, m);
+    settled
+}
+
 // The level at which the property at the table's root holds on the samples, and whether it was tested; the rows are left in the workspace.
 pub fn judge(table: &[u8], samples: &[u64], workspace: &mut [u64]) -> Judgement
     ensures { λ r. ⌜ Judges (now (table .entry)) (now (samples .entry)) (now (workspace .entry)) r (now (workspace .exit)) ⌝ }
 {
     let mut new = [0; 486];
-    let settled = settle(table, SEQUENCE, samples.len(), 0, workspace.len(), &mut new);
-    let verdict = settled.verdict;
+    let laid = lay(table, SEQUENCE, samples, 0, workspace, &mut new);
+    let verdict = laid.verdict;
     if verdict.number != 0 {
         return Judgement {
             verdict,
@@ -45,9 +70,8 @@ pub fn judge(table: &[u8], samples: &[u64], workspace: &mut [u64]) -> Judgement
             tested: false,
         };
     }
-    let m = settled.count;
+    let m = laid.count;
     let used = 4 * m + 6;
-    fill(&new[..used], samples, workspace, m);
     Judgement {
         verdict,
         level: level_of(workspace, m - 1),
@@ -60,15 +84,8 @@ pub fn match_ends(table: &[u8], samples: &[u64], start: usize, workspace: &mut [
     ensures { λ r. ⌜ EndsMatches (now (table .entry)) (now (samples .entry)) (now (workspace .entry)) start r (now (workspace .exit)) ⌝ }
 {
     let mut new = [0; 486];
-    let settled = settle(
-        table,
-        PROPERTY,
-        samples.len(),
-        start,
-        workspace.len(),
-        &mut new,
-    );
-    let verdict = settled.verdict;
+    let laid = lay(table, PROPERTY, samples, start, workspace, &mut new);
+    let verdict = laid.verdict;
     if verdict.number != 0 {
         return MatchEnds {
             verdict,
@@ -76,12 +93,10 @@ pub fn match_ends(table: &[u8], samples: &[u64], start: usize, workspace: &mut [
             top: false,
         };
     }
-    let m = settled.count;
-    let used = 4 * m + 6;
-    fill(&new[..used], samples, workspace, m);
+    let root = laid.count - 1;
     MatchEnds {
         verdict,
-        mask: word_at(workspace, m - 1, start),
-        top: word_at(workspace, m - 1, TOP_WORD).has(start),
+        mask: word_at(workspace, root, start),
+        top: word_at(workspace, root, TOP_WORD).has(start),
     }
 }

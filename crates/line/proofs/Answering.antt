@@ -6,7 +6,7 @@ use mathlib.Core.Logic.{_⊎_, inl, inr, ⊎-elim}
 use mathlib.Core.List.{List, [], _∷_, _++_}
 use Prim.Native.Nat.{ℕ, _-_, _<_, _≤_}
 use lib.ListN.{length, take, drop, length-drop, length-replicate, replicate}
-use lib.Seq.{take-all, take-at, length-take-le}
+use lib.Seq.{take-all, take-at, take-length, length-take-le}
 use Rattle.refusal.specs.declared.Verdict.{Verdict}
 use Rattle.refusal.specs.First.{Refusal, Answers, LowestSuch}
 use Rattle.refusal.specs.Heading.{count}
@@ -15,22 +15,19 @@ use Rattle.refusal.proofs.Given.{none-given, not-given-append, answers-after, a
 use Rattle.meaning.specs.Syntax.{Prop}
 use Rattle.meaning.specs.Meaning.{Level, level3, level2, level1, level0}
 use Rattle.meaning.specs.Signal.{signal}
-use Rattle.nodes.specs.Operators.{sequence}
 use Rattle.table.specs.Check as Check
-use Rattle.rewrite.specs.Rewrites.{tooMany}
-use Rattle.writing.specs.Computed.{put}
 use Rattle.record.specs.declared.Reading.{Reading}
 use Rattle.record.specs.Record as Record
 use Rattle.record.specs.Record.{Reads}
 use Rattle.record.proofs.Samples.{length-samples}
 use Rattle.cells.specs.Shares.{longest}
 use Rattle.judge.specs.declared.Judgement.{Judgement}
-use Rattle.judge.specs.Refusals.{wrongRoot, judgeRefusals}
+use Rattle.settling.specs.Refusals.{judgeRefusals}
 use Rattle.judge.specs.Judges.{Judges}
-use Rattle.judge.proofs.Passing.{judgeRest, judge-passes}
-use Rattle.line.specs.Text.{levelLine, refusedLine}
+use Rattle.settling.proofs.Passing.{judge-passes}
 use Rattle.line.specs.Program.{tablePart, recordPart, samplesOf, cleared, refusals, LineFor, Says}
-use Rattle.line.specs.Computed.{Puts}
+use Rattle.linetext.specs.Computed.{lineOf, Puts}
+use Rattle.linetext.proofs.Lines.{line-table, line-record, line-level}
 use Rattle.line.proofs.Parts.{PartsAt}
 
 -- ---- the node of a refusal
@@ -101,14 +98,14 @@ table-node t n words v a = let l = low-node 120 (judgeRefusals t n words) low v 
 module _ (s : List ℕ) where
   -- the judge's own refusals after a table's, and the program's
   abbrev ofJudge : ℕ → ℕ → List Refusal
-  ofJudge n words = wrongRoot (tablePart s) sequence ∷ tooMany (tablePart s) ∷ judgeRest (tablePart s) n words
+  ofJudge n words = drop 9 (judgeRefusals (tablePart s) n words)
 
   abbrev ofProgram : List Refusal
-  ofProgram = wrongRoot (tablePart s) sequence ∷ tooMany (tablePart s) ∷ Record.refusals (recordPart s) longest
+  ofProgram = drop 9 (refusals s)
 
   -- the judge's refusals, of few samples and with room for every table, are the table's
   table-first : (n words : ℕ) → n ≤ longest → 7800 ≤ words → (v : Verdict) → ¬ (v .number ≡ 0) → Answers (judgeRefusals (tablePart s) n words) v → Answers (refusals s) v
-  unfolding judgeRefusals refusals Answers
+  unfolding judgeRefusals refusals Check.refusals Answers
   table-first n words few room v z a = answers-after (Check.refusals (tablePart s)) (ofJudge n words) ofProgram v (λ _. own) a
     where
       own : Answers (ofJudge n words) v → Answers ofProgram v
@@ -120,16 +117,20 @@ module _ (s : List ℕ) where
 
   -- with none of them, the record's
   record-next : (n words : ℕ) (v : Verdict) → v .number ≡ 0 → Answers (judgeRefusals (tablePart s) n words) v → (u : Verdict) → Answers (Record.refusals (recordPart s) longest) u → Answers (refusals s) u
-  unfolding refusals Answers
+  unfolding judgeRefusals refusals Check.refusals Answers
   record-next n words v z a u b =
-      let (table, (root, (count, _))) = not-given-append (Check.refusals (tablePart s)) _ (judge-passes (tablePart s) n words v z a) in
+      let (table, (root, (count, _))) = not-given-append (Check.refusals (tablePart s)) (ofJudge n words) (judge-passes (tablePart s) n words v z a) in
       answers-beyond (Check.refusals (tablePart s)) ofProgram u table (inr (root, inr (count, b)))
 
 -- ---- the line
 
 says : (s line d : List ℕ) (r : ℕ) (d′ : List ℕ) → LineFor s line → Puts d 0 line r d′ → Says s d r d′
-unfolding put
-says s line d r d′ right p = record { line = line; right = right; count = p .next ∙ zero-add (length line); left = p .bytes ∙ ap (λ (n : ℕ). line ++ drop n d) (zero-add (length line)) }
+says s line d r d′ right p = record {
+  line = line;
+  right = right;
+  count = p .next ∙ zero-add (length line);
+  left = p .bytes ∙ ap (λ (n : ℕ). take (length line) line ++ drop n d) (zero-add (length line)) ∙ ap (λ (t : List ℕ). t ++ drop (length line) d) (take-length line);
+}
 
 -- a record has few samples, and no more are answered
 pub few-samples : (r d : List ℕ) (reading : Reading) (words : List ℕ) → Reads r d reading words → reading .count ≤ 63
@@ -155,8 +156,9 @@ low-level (level2 _ _) = omega arith
 low-level (level1 _ _) = omega arith
 low-level (level0 _) = omega arith
 
-pub level-digit : (t xs d : List ℕ) (judged : Judgement) (left : List ℕ) → Judges t xs d judged left → judged .verdict .number ≡ 0 → judged .level .number < 10
-level-digit t xs d judged left judges z = let (_, _, l) = judges .accepted z .level in low-level l
+pub level-digit : (t xs d : List ℕ) (judged : Judgement) (left : List ℕ) → Judges t xs d judged left → judged .level .number < 10
+level-digit t xs d judged left judges =
+    ⊎-elim (λ z. let (_, _, l) = judges .accepted z .level in low-level l) (λ z. let e = judges .refused z .0 in omega arith) (decide (is-eq (judged .verdict .number) 0))
 
 -- what is known when the judge has answered: the record was read into 63 words, and the workspace was cleared
 module _ (s : List ℕ) (end : ℕ) (parts : PartsAt s end) (reading : Reading) (words : List ℕ) (read : Reads (take (length s - end) (drop end s)) (replicate 63 0) reading words) (judged : Judgement) (left : List ℕ)
@@ -187,26 +189,42 @@ module _ (s : List ℕ) (end : ℕ) (parts : PartsAt s end) (reading : Reading) 
       ∙ take-at (Record.samples r (count r)) _ (count r) (length-samples r (count r))
       ∙ ap (λ (r : List ℕ). Record.samples r (count r)) (parts .1)
 
-  module _ (d : List ℕ) (r : ℕ) (d′ : List ℕ) where
-    pub refused-table : ¬ (judged .verdict .number ≡ 0) → Puts d 0 (refusedLine (judged .verdict)) r d′ → Says s d r d′
-    refused-table z p =
-        says s _ d r d′
-        (record { verdict = judged .verdict; answer = table-first s _ 7800 few (omega arith) (judged .verdict) z ofTable; accepted = λ y. absurd (z y); refused = λ _. refl })
-        p
+  -- the line is the table's refusal, or else the record's, or else the level's
+  abbrev line : List ℕ
+  line = lineOf (judged .verdict) (reading .verdict) (judged .level .number) (judged .tested)
 
-    pub refused-record : judged .verdict .number ≡ 0 → ¬ (reading .verdict .number ≡ 0) → Puts d 0 (refusedLine (reading .verdict)) r d′ → Says s d r d′
-    refused-record z y p =
-        says s _ d r d′
-        (record { verdict = reading .verdict; answer = record-next s _ 7800 (judged .verdict) z ofTable (reading .verdict) ofRecord; accepted = λ x. absurd (y x); refused = λ _. refl })
-        p
+  right : LineFor s line
+  right = ⊎-elim (λ z. ⊎-elim (good z) (other z) (decide (is-eq (reading .verdict .number) 0))) refused-table (decide (is-eq (judged .verdict .number) 0))
+    where
+      refused-table : ¬ (judged .verdict .number ≡ 0) → LineFor s line
+      refused-table z = record {
+        verdict = judged .verdict;
+        answer = table-first s _ 7800 few (omega arith) (judged .verdict) z ofTable;
+        accepted = λ y. absurd (z y);
+        refused = λ _. line-table _ _ _ _ z;
+      }
 
-    pub levelled : judged .verdict .number ≡ 0 → reading .verdict .number ≡ 0 → Puts d 0 (levelLine (judged .level .number) (judged .tested)) r d′ → Says s d r d′
-    levelled z y p =
-        says s _ d r d′
-        (record {
-          verdict = reading .verdict;
-          answer = record-next s _ 7800 (judged .verdict) z ofTable (reading .verdict) ofRecord;
-          accepted = λ _. record { judgement = judged; workspace = left; judged = subst (λ (xs : List ℕ). Judges (tablePart s) xs cleared judged left) (same-samples y) (subst (λ (t : List ℕ). Judges t (take (reading .count) words) cleared judged left) (parts .0) judges); accepts = z; is = refl };
-          refused = λ x. absurd (x y);
-        })
-        p
+      other : judged .verdict .number ≡ 0 → ¬ (reading .verdict .number ≡ 0) → LineFor s line
+      other z y = record {
+        verdict = reading .verdict;
+        answer = record-next s _ 7800 (judged .verdict) z ofTable (reading .verdict) ofRecord;
+        accepted = λ x. absurd (y x);
+        refused = λ _. line-record _ _ _ _ z y;
+      }
+
+      good : judged .verdict .number ≡ 0 → reading .verdict .number ≡ 0 → LineFor s line
+      good z y = record {
+        verdict = reading .verdict;
+        answer = record-next s _ 7800 (judged .verdict) z ofTable (reading .verdict) ofRecord;
+        accepted = λ _. record {
+          judgement = judged;
+          workspace = left;
+          judged = subst (λ (xs : List ℕ). Judges (tablePart s) xs cleared judged left) (same-samples y) (subst (λ (t : List ℕ). Judges t (take (reading .count) words) cleared judged left) (parts .0) judges);
+          accepts = z;
+          is = line-level _ _ _ _ z y;
+        };
+        refused = λ x. absurd (x y);
+      }
+
+  pub answered : (d : List ℕ) (r : ℕ) (d′ : List ℕ) → Puts d 0 line r d′ → Says s d r d′
+  answered d r d′ p = says s line d r d′ right p

@@ -1,6 +1,5 @@
--- The code: where the table part ends, the bytes of a line, and its verdict.
+-- The code: where the table part ends, and the line's verdict.
 pub mod Parts
-pub mod Lines
 pub mod Answering
 -- What somebody above cites.
 pub mod Theorems

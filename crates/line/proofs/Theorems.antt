@@ -21,9 +21,9 @@ use Rattle.rewrite.specs.Rewrites.{tooMany}
 use Rattle.record.specs.Record as Record
 use Rattle.cells.specs.Shares.{longest}
 use Rattle.judge.specs.declared.Judgement.{Judgement}
-use Rattle.judge.specs.Refusals.{wrongRoot}
+use Rattle.settling.specs.Refusals.{wrongRoot}
 use Rattle.judge.proofs.Unique.{judge-unique}
-use Rattle.line.specs.Text.{levelLine, refusedLine}
+use Rattle.linetext.specs.Text.{levelLine, refusedLine}
 use Rattle.line.specs.Program.{tablePart, recordPart, samplesOf, cleared, refusals, LevelLine, LineFor, Says, Told}
 
 -- ---- no second line

@@ -1,3 +1,2 @@
-pub mod Text
+-- The page's program.
 pub mod Program
-pub mod Computed

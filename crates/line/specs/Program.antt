@@ -20,9 +20,9 @@ use Rattle.record.specs.Record as Record
 use Rattle.cells.specs.Shares.{longest}
 use Rattle.judge.specs.declared.Judgement.{Judgement}
 use Rattle.judge.specs.Tested.{Tested}
-use Rattle.judge.specs.Refusals.{wrongRoot}
+use Rattle.settling.specs.Refusals.{wrongRoot}
 use Rattle.judge.specs.Judges.{Judges}
-use Rattle.line.specs.Text.{levelLine, refusedLine}
+use Rattle.linetext.specs.Text.{levelLine, refusedLine}
 
 -- the table part is 6 + 4·count bytes, or all there is
 unfoldable pub tablePart : List ℕ → List ℕ

@@ -1,9 +1,6 @@
-// The program's answer: the line for any input, a table and then a record.
-mod text;
-
+// The program's answer: the line for any input, a table and then a record. How a line is written stands in `linetext`.
 use judge::judge;
-use text::put_level;
-use text::put_refusal;
+use linetext::put_line;
 ghost use mathlib.Core.Path.{_≡_};
 ghost use Prim.Native.Nat.{_<_, _≤_};
 ghost use lib.ListN.{length, take, drop};
@@ -50,13 +47,11 @@ pub fn answer(input: &[u8], line: &mut [u8; LONGEST_LINE]) -> usize
     let n = reading.count;
     let mut workspace = [0; 7800];
     let judged = judge(&input[..end], &samples[..n], &mut workspace);
-    let of_table = judged.verdict;
-    if of_table.number != 0 {
-        return put_refusal(line, of_table);
-    }
-    let of_record = reading.verdict;
-    if of_record.number != 0 {
-        return put_refusal(line, of_record);
-    }
-    put_level(line, judged.level, judged.tested)
+    put_line(
+        line,
+        judged.verdict,
+        reading.verdict,
+        judged.level.number,
+        judged.tested,
+    )
 }

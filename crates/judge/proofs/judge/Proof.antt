@@ -1,15 +1,13 @@
--- `judge::judge` meets its contract: what is settled, filled and read is what Judging.antt says. Assumes nothing.
+-- `judge::judge` meets its contract: a law of Judging.antt at each need. Assumes nothing.
 use native.Mathlib.Omega.{arith}
-use mathlib.Core.Path.{refl}
-use Prim.Native.Nat.{_≤_}
 use borrow.Author.Needs.{needs}
-use Rattle.judge.proofs.Judging.{few, some, used-bytes, fits, root-row, implies-rows, judge-refused, judge-accepted}
+use Rattle.judge.proofs.Judging.{four-fit, used-fit, used-within, used-bytes, some, laid-root, laid-tested, judge-refused, judge-accepted}
 use Rattle.judge.proofs.judge.Statement.{statement}
 use Rattle.judge.proofs.judge.Tie as tie
 
--- where nothing is refused there are 120 new nodes at most
-few-new : (c : tie.Else1) → c .before .before .before .before .settle .result .count ≤ 120
-few-new c = few _ _ _ _ _ _ _ (c .before .before .before .before .settle .ensures) (c .if1 .left)
+-- where nothing is refused, the call that laid the rows
+abbrev laid : tie.Else1 → tie.After-lay
+laid e = e .before .before .before .before .before .before
 
 pub judge-spec : {M : Type 1} → statement M
 judge-spec =
@@ -17,20 +15,17 @@ judge-spec =
     (tie.spec
     (λ c. search needs)
     (λ c κs. search needs)
+    (λ c. search needs)
     (λ c. search judge-refused)
-    (λ c. record { fits = let l = few-new c in omega arith })
-    (λ c. record { fits = let l = few-new c in omega arith })
-    (λ c. let l = few-new c in omega arith)
-    (λ c. let e = c .before in used-bytes _ _ _ _ _ _ _ (e .before .before .before .before .settle .ensures) (e .if1 .left))
-    (λ c κs. search fits)
+    (λ c. search four-fit)
+    (λ c. search used-fit)
     (λ c. search some)
-    (λ c κs.
-    let e = c .before .before .before .before .before .before in
-    root-row _ _ _ _ _ _ _ (e .before .before .before .before .settle .ensures) (e .if1 .left) _ _ refl refl _ (c .before .before .before .fill .ensures))
-    (λ c. let l = few-new (c .before .before .before .before .before .before .before) in omega arith)
-    (λ c. let e = c .before .before .before .before .before .before .before .before in used-bytes _ _ _ _ _ _ _ (e .before .before .before .before .settle .ensures) (e .if1 .left))
-    (λ c κs.
-    let e = c .before .before .before .before .before .before .before .before .before in
-    implies-rows _ _ _ _ _ _ _ (e .before .before .before .before .settle .ensures) (e .if1 .left) _ _ refl refl _ (c .before .before .before .before .before .before .fill .ensures))
+    (λ c κs. search laid-root)
+    (λ c.
+    let e = c .before .before in
+    let l = used-within _ _ _ _ _ _ _ _ (laid e .lay .ensures .settles) (e .if1 .left) in
+    omega arith)
+    (λ c. search used-bytes)
+    (λ c κs. search laid-tested)
     (λ c. search needs)
     (λ c. search judge-accepted))

@@ -1,0 +1,2 @@
+-- The bytes of a line.
+pub mod Lines

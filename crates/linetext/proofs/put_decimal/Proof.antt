@@ -1,0 +1,15 @@
+-- `linetext::put_decimal` meets its contract. Assumes nothing.
+use borrow.Author.Needs.{needs}
+use Rattle.linetext.proofs.Lines.{puts-decimal}
+use Rattle.linetext.proofs.put_decimal.Statement.{statement}
+use Rattle.linetext.proofs.put_decimal.Tie as tie
+
+pub put-decimal-spec : {M : Type 1} → statement M
+put-decimal-spec =
+    tie.close
+    (tie.spec
+    (λ c κs. search needs)
+    (λ c κs. search needs)
+    (λ c κs. search needs)
+    (λ c. search needs)
+    (λ c. (search puts-decimal, search needs)))

@@ -1,0 +1,19 @@
+-- `linetext::put_line` meets its contract. Assumes nothing.
+use borrow.Author.Needs.{needs}
+use Rattle.linetext.proofs.Lines.{puts-as, line-table, line-record, line-level}
+use Rattle.linetext.proofs.put_line.Statement.{statement}
+use Rattle.linetext.proofs.put_line.Tie as tie
+
+pub put-line-spec : {M : Type 1} → statement M
+put-line-spec =
+    tie.close
+    (tie.spec
+    (λ c κs. search needs)
+    (λ c. search needs)
+    (λ c. search (puts-as, line-table))
+    (λ c κs. search needs)
+    (λ c. search needs)
+    (λ c. search (puts-as, line-record))
+    (λ c κs. search needs)
+    (λ c. search needs)
+    (λ c. search (puts-as, line-level)))

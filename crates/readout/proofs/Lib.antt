@@ -1,0 +1,2 @@
+-- The nodes that were asked.
+pub mod Seeing
