@@ -43,6 +43,7 @@ fn ends_from(words: &[u64], s: PositionSet, n: usize) -> PositionSet
 pub fn longer_words(rows: &[u64], b: usize, n: usize, out: &mut [u64])
     requires { ⌜ HasRow (length (now rows)) b × (n ≤ longest) × (n < length (now out)) ⌝ }
     ensures { λ _. ⌜ ((m : ℕ) → m ≤ n → Is (getD (now (out .exit)) m 0) (longer (now (rows .entry)) b m)) ⌝ }
+    ensures { λ _. ⌜ ((m : ℕ) → n < m → getD (now (out .exit)) m 0 ≡ getD (now (out .entry)) m 0) ⌝ }
 {
     let mut m: usize = 0;
     while m <= n {

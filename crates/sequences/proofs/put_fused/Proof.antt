@@ -30,7 +30,7 @@ fused-from-requires c κs =
     let turn = c .before .before .before in
     let l = turn .loop .inv .its in
     let s = start turn .pre in
-    ((row-below _ l (s .1), row-below _ l (s .2), search needs, search needs, search needs), rw (l .rows) (taken turn .longer-words .ensures))
+    ((row-below _ l (s .1), row-below _ l (s .2), search needs, search needs, search needs), rw (l .rows) (taken turn .longer-words .ensures .0))
 
 loop-again : tie.Need-loop-again Inv-loop μ-loop
 loop-again c =
