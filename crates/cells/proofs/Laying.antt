@@ -55,11 +55,11 @@ row-words rows b n r short m u j = rw (getD-take (length rows - share * b) (drop
 
 -- ---- a workspace that differs from d in share k alone, where word i is f i
 
-pub laid-is : (d out : List ℕ) (k : ℕ) (f : ℕ → ℕ) → share * k + share ≤ length d → length out ≡ length d
+pub with-row-is : (d out : List ℕ) (k : ℕ) (f : ℕ → ℕ) → share * k + share ≤ length d → length out ≡ length d
     → ((i : ℕ) → i < share → getD out (share * k + i) 0 ≡ f i)
     → ((j : ℕ) → (j < share * k) ⊎ (share * k + share ≤ j) → getD out j 0 ≡ getD d j 0) → out ≡ withRow d k (tab f share)
 unfolding withRow
-laid-is d out k f fits long own others =
+with-row-is d out k f fits long own others =
     sym (take-append-drop (share * k + share) out)
     ∙ ap₂ _++_
     (take-add (share * k) share out ∙ ap₂ _++_ (take-same (share * k) d out long (λ j h. others j (inl h))) row)

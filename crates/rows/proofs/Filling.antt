@@ -23,15 +23,15 @@ use Rattle.cells.specs.Bits.{booleanBit}
 use Rattle.properties.specs.Shapes.{Satisfying}
 use Rattle.cells.specs.Stored.{tab, withRow, None, Stored}
 use Rattle.rows.specs.Rows.{threeWords, threeRow, nodeWord, nodeRow, rowsOf, filled}
-use Rattle.cells.proofs.Laying.{word-is, length-tab, getD-tab, laid-is}
+use Rattle.cells.proofs.Laying.{word-is, length-tab, getD-tab, with-row-is}
 
 -- ---- a row of three words
 
 -- the first three words of share k are written, and the others made 0
-pub three-laid : (d out : List ℕ) (k u v w : ℕ) → share * k + share ≤ length d
+pub three-row-is : (d out : List ℕ) (k u v w : ℕ) → share * k + share ≤ length d
     → Stored None (set (set (set d (share * k) u) (share * k + 1) v) (share * k + 2) w) (share * k) 3 share out
     → out ≡ withRow d k (tab (threeWords u v w) share)
-three-laid d out k u v w fits c = laid-is d out k (threeWords u v w) fits (c .long ∙ simp length-set) own others
+three-row-is d out k u v w fits c = with-row-is d out k (threeWords u v w) fits (c .long ∙ simp length-set) own others
   where
     one : List ℕ
     one = set d (share * k) u
@@ -66,19 +66,19 @@ three-laid d out k u v w fits c = laid-is d out k (threeWords u v w) fits (c .lo
 
 -- ---- the rows of the three sorts
 
-pub boolean-laid : (d xs out : List ℕ) (k : ℕ) (op : BooleanOp) (node : Node) (u v w : ℕ) → node ≡ Boolean op → u < 2 ^ 64
+pub boolean-row-is : (d xs out : List ℕ) (k : ℕ) (op : BooleanOp) (node : Node) (u v w : ℕ) → node ≡ Boolean op → u < 2 ^ 64
     → Is u (booleanBit (take (share * k) d) xs op) → Is v (λ k. false) → Is w (λ k. false) → out ≡ withRow d k (tab (threeWords u v w) share)
     → out ≡ withRow d k (nodeRow (take (share * k) d) xs node)
 unfolding nodeRow
-boolean-laid d xs out k op node u v w en hu eu ev ew e =
+boolean-row-is d xs out k op node u v w en hu eu ev ew e =
     rw (en, e, word-is u (booleanBit (take (share * k) d) xs op) hu eu, ext v 0 (λ k. ev k ∙ sym (has-none k)), ext w 0 (λ k. ew k ∙ sym (has-none k)))
 
-pub property-laid : (d xs out : List ℕ) (k : ℕ) (op : PropertyOp) (node : Node) (r : Suffixes) → node ≡ Property op
+pub property-row-is : (d xs out : List ℕ) (k : ℕ) (op : PropertyOp) (node : Node) (r : Suffixes) → node ≡ Property op
     → r .neutral .bits < 2 ^ 64 → r .weak .bits < 2 ^ 64 → r .strong .bits < 2 ^ 64 → Satisfying (take (share * k) d) (length xs) op r
     → out ≡ withRow d k (threeRow r)
     → out ≡ withRow d k (nodeRow (take (share * k) d) xs node)
 unfolding nodeRow
-property-laid d xs out k op node r en hu hv hw q e =
+property-row-is d xs out k op node r en hu hv hw q e =
     rw (en, e, word-is _ _ hu (q .neutral), word-is _ _ hv (q .weak), word-is _ _ hw (q .strong))
 
 -- ---- the rows of the nodes below k

@@ -22,7 +22,7 @@ use Rattle.cells.specs.Ready.{readySequence}
 use Rattle.matches.specs.Shapes.{Finds}
 use Rattle.cells.specs.Stored.{tab, withRow, None, Stored}
 use Rattle.sequences.specs.Made.{sequenceWord, EndsOf, Made}
-use Rattle.cells.proofs.Laying.{below-share, word-is, laid-is, stored-none, stored-up, stored-down, stored-as, rows-stored}
+use Rattle.cells.proofs.Laying.{below-share, word-is, with-row-is, stored-none, stored-up, stored-down, stored-as, rows-stored}
 
 -- ---- a set whose places n, n - 1, .. are decided one after the other: those from i to n are
 
@@ -189,7 +189,7 @@ module _ {d ws : List ℕ} {k n tops : ℕ} {op : SequenceOp} (l : Lent d k n ws
       → Is t (λ j. has tops j || has cut j) → Stored None (set ws (share * k + topWord) t) (share * k) (n + 1) topWord out
       → out ≡ withRow d k (tab (sequenceWord (take (share * k) d) n op) share)
   all-made opened cut t out small opens cuts joined c =
-      laid-is d out k (sequenceWord (take (share * k) d) n op) (l .within) (long-made _ _ t out c) own others
+      with-row-is d out k (sequenceWord (take (share * k) d) n op) (l .within) (long-made _ _ t out c) own others
     where
       there : Is opened (startsOpen (take (share * k) d) n op)
       there = rw (← l .rows) opens

@@ -7,7 +7,7 @@ use Rattle.nodes.specs.declared.Node.{Node}
 use Rattle.cells.specs.Shares.{share}
 use Rattle.cells.proofs.Laying.{below-share}
 use Rattle.rows.specs.Rows.{nodeRow, Ready}
-use Rattle.rows.proofs.Filling.{boolean-laid, property-laid}
+use Rattle.rows.proofs.Filling.{boolean-row-is, property-row-is}
 use Rattle.rows.proofs.put_row.Statement.{statement}
 use Rattle.rows.proofs.put_row.Tie as tie
 
@@ -30,7 +30,7 @@ returns : tie.Need-returns
 returns c =
     let none = c .before .before .before .before in
     let set = none .before in
-    boolean-laid _ _ _ _ _ _ _ _ _ (set .before .before .before .node .given .1) (search needs) (set .boolean-set .ensures) (none .empty .ensures) (none .empty .ensures) (c .before .before .put-three .ensures)
+    boolean-row-is _ _ _ _ _ _ _ _ _ (set .before .before .before .node .given .1) (search needs) (set .boolean-set .ensures) (none .empty .ensures) (none .empty .ensures) (c .before .before .put-three .ensures)
 
 returns-2 : tie.Need-returns-2
 unfolding nodeRow
@@ -39,7 +39,7 @@ returns-2 c = let put = c .before .before in rw (put .before .before .before .no
 returns-3 : tie.Need-returns-3
 returns-3 c =
     let words = c .before .before .before .before in
-    property-laid _ _ _ _ _ _ _ (words .before .before .before .node3 .given .1) (search needs) (search needs) (search needs) (words .suffixes-of .ensures) (c .before .before .put-three2 .ensures)
+    property-row-is _ _ _ _ _ _ _ (words .before .before .before .node3 .given .1) (search needs) (search needs) (search needs) (words .suffixes-of .ensures) (c .before .before .put-three2 .ensures)
 
 pub put-row-spec : {M : Type 1} → statement M
 put-row-spec =

@@ -1,7 +1,7 @@
 -- `rows::put_three` meets its contract: three words are written and the others of the share made 0. Assumes nothing.
 use lib.ListN.{length-set}
 use mathlib.Core.Path.{_∙_}
-use Rattle.rows.proofs.Filling.{three-laid}
+use Rattle.rows.proofs.Filling.{three-row-is}
 use native.Mathlib.Omega.{arith}
 use borrow.Author.Needs.{needs}
 use Rattle.rows.proofs.put_three.Statement.{statement}
@@ -17,7 +17,7 @@ same-length : tie.Need-same-length
 same-length c = c .before .before .clear .kept .0 ∙ simp length-set
 
 returns : tie.Need-returns
-returns c = three-laid _ _ _ _ _ _ (search needs) (c .before .before .clear .ensures)
+returns c = three-row-is _ _ _ _ _ _ (search needs) (c .before .before .clear .ensures)
 
 pub put-three-spec : {M : Type 1} → statement M
 put-three-spec =
