@@ -27,7 +27,7 @@ use Rattle.judge.specs.Judges.{Judges}
 use Rattle.settling.proofs.Passing.{judge-passes}
 use Rattle.line.specs.Program.{tablePart, recordPart, samplesOf, cleared, refusals, LineFor, Says}
 use Rattle.linetext.specs.Computed.{lineOf, Puts}
-use Rattle.linetext.proofs.Lines.{line-table, line-record, line-level}
+use Rattle.linetext.proofs.Lines.{told-table, told-record, told-level}
 use Rattle.line.proofs.Parts.{PartsAt}
 
 -- ---- the node of a refusal
@@ -201,7 +201,7 @@ module _ (s : List ℕ) (end : ℕ) (parts : PartsAt s end) (reading : Reading) 
         verdict = judged .verdict;
         answer = table-first s _ 7800 few (omega arith) (judged .verdict) z ofTable;
         accepted = λ y. absurd (z y);
-        refused = λ _. line-table _ _ _ _ z;
+        refused = λ _. told-table _ _ _ _ z;
       }
 
       other : judged .verdict .number ≡ 0 → ¬ (reading .verdict .number ≡ 0) → LineFor s line
@@ -209,7 +209,7 @@ module _ (s : List ℕ) (end : ℕ) (parts : PartsAt s end) (reading : Reading) 
         verdict = reading .verdict;
         answer = record-next s _ 7800 (judged .verdict) z ofTable (reading .verdict) ofRecord;
         accepted = λ x. absurd (y x);
-        refused = λ _. line-record _ _ _ _ z y;
+        refused = λ _. told-record _ _ _ _ z y;
       }
 
       good : judged .verdict .number ≡ 0 → reading .verdict .number ≡ 0 → LineFor s line
@@ -221,7 +221,7 @@ module _ (s : List ℕ) (end : ℕ) (parts : PartsAt s end) (reading : Reading) 
           workspace = left;
           judged = subst (λ (xs : List ℕ). Judges (tablePart s) xs cleared judged left) (same-samples y) (subst (λ (t : List ℕ). Judges t (take (reading .count) words) cleared judged left) (parts .0) judges);
           accepts = z;
-          is = line-level _ _ _ _ z y;
+          is = told-level _ _ _ _ z y;
         };
         refused = λ x. absurd (x y);
       }

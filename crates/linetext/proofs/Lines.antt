@@ -105,16 +105,20 @@ decimal-is n l = ⊎-elim one (λ g. ⊎-elim (two g) three (decide (is-lt n 100
     three : ¬ (n < 100) → decimal n ≡ digits n
     three g = decimal-three n (omega arith) l ∙ rw (lt-ltb 99 n (omega arith), lt-ltb 9 n (omega arith))
 
-pub puts-decimal : (d : List ℕ) (at n : ℕ) → at + 3 ≤ length d → n < 1000 → (r q p : ℕ) (e f g : List ℕ) → Puts d at (digitIf (ltb 99 n) (n / 100)) r e → r ≤ at + 1
+puts-decimal : (d : List ℕ) (at n : ℕ) → at + 3 ≤ length d → n < 1000 → (r q p : ℕ) (e f g : List ℕ) → Puts d at (digitIf (ltb 99 n) (n / 100)) r e → r ≤ at + 1
     → Puts e r (digitIf (ltb 9 n) (n / 10 % 10)) q f → q ≤ r + 1 → Puts f q (digit (n % 10) ∷ []) p g → Puts d at (decimal n) p g
 puts-decimal d at n l h r q p e f g a i b j c =
     let two = puts-then d at _ _ r q e f (let n = a .next in omega arith) a b in
     subst (λ (t : List ℕ). Puts d at t p g) (sym (decimal-is n h)) (puts-then d at _ _ q p f g (let n = two .next in omega arith) two c)
 
 -- a text and a number
-pub puts-number : (d : List ℕ) (at : ℕ) (t : List ℕ) (n : ℕ) → at + length t + 3 ≤ length d → (r q : ℕ) (e f : List ℕ) → Puts d at t r e → Puts e r (decimal n) q f
-    → Puts d at (t ++ decimal n) q f
-puts-number d at t n l r q e f a b = puts-then d at t (decimal n) r q e f (omega arith) a b
+pub puts-number : (d : List ℕ) (at : ℕ) (t : List ℕ) (n : ℕ) → at + length t + 3 ≤ length d → n < 1000 → (q r₁ r₂ r₃ : ℕ) (c e₁ e₂ e₃ : List ℕ) → Puts d at t q c
+    → Puts c q (digitIf (ltb 99 n) (n / 100)) r₁ e₁ → r₁ ≤ q + 1 → Puts e₁ r₁ (digitIf (ltb 9 n) (n / 10 % 10)) r₂ e₂ → r₂ ≤ r₁ + 1 → Puts e₂ r₂ (digit (n % 10) ∷ []) r₃ e₃
+    → Puts d at (t ++ decimal n) r₃ e₃
+puts-number d at t n l h q r₁ r₂ r₃ c e₁ e₂ e₃ text one i two j three =
+    let k = text .next in
+    let m = text .size in
+    puts-then d at t (decimal n) q r₃ c e₃ (omega arith) text (puts-decimal c q n (omega arith) h r₁ r₂ r₃ e₁ e₂ e₃ one i two j three)
 
 -- ---- the two lines
 
@@ -125,10 +129,11 @@ module _ (d : List ℕ) (long : 19 ≤ length d) where
   unfolding refusedLine
   puts-refusal v n is r₁ e₁ a l₁ r₂ e₂ b l₂ r₃ e₃ c =
       let i = a .next in
-      let two = puts-then d 0 _ _ r₁ r₂ e₁ e₂ (omega arith) a b in
-      let j = two .next in
-      subst (λ (t : List ℕ). Puts d 0 (t ++ codes "\n") r₃ e₃) (ap (λ (n : ℕ). codes "refused " ++ decimal n ++ (codes " at " ++ decimal (v .node))) is ∙ sym (append-assoc (codes "refused " ++ decimal (v .number)) (codes " at ") (decimal (v .node))))
-      (puts-then d 0 _ _ r₂ r₃ e₂ e₃ (omega arith) two c)
+      let number = subst (λ (n : ℕ). Puts d 0 (codes "refused " ++ decimal n) r₁ e₁) is a in
+      let node = puts-then d 0 _ _ r₁ r₂ e₁ e₂ (omega arith) number b in
+      let j = node .next in
+      let same = sym (append-assoc (codes "refused " ++ decimal (v .number)) (codes " at ") (decimal (v .node))) in
+      subst (λ (t : List ℕ). Puts d 0 (t ++ codes "\n") r₃ e₃) same (puts-then d 0 _ _ r₂ r₃ e₂ e₃ (omega arith) node c)
 
   module _ (level : ℕ) (low : level < 10) (r₁ : ℕ) (e₁ : List ℕ) (word : Puts d 0 (codes "level ") r₁ e₁) (n : ℕ) (is : n ≡ level) (r₂ : ℕ) (e₂ : List ℕ)
       (number : Puts e₁ r₁ (digit n ∷ []) r₂ e₂) (tested : Bool) (r₃ : ℕ) (e₃ : List ℕ) where
@@ -146,18 +151,18 @@ module _ (d : List ℕ) (long : 19 ≤ length d) where
 
 -- which of them
 module _ (table read : Verdict) (level : ℕ) (tested : Bool) where
-  pub line-table : ¬ (table .number ≡ 0) → lineOf table read level tested ≡ refusedLine table
+  pub told-table : ¬ (table .number ≡ 0) → lineOf table read level tested ≡ refusedLine table
   unfolding lineOf
-  line-table z = rw (ne-eqb (table .number) 0 z)
+  told-table z = rw (ne-eqb (table .number) 0 z)
 
   module _ (z : table .number ≡ 0) where
-    pub line-record : ¬ (read .number ≡ 0) → lineOf table read level tested ≡ refusedLine read
+    pub told-record : ¬ (read .number ≡ 0) → lineOf table read level tested ≡ refusedLine read
     unfolding lineOf
-    line-record y = rw (eq-eqb (table .number) 0 z, ne-eqb (read .number) 0 y)
+    told-record y = rw (eq-eqb (table .number) 0 z, ne-eqb (read .number) 0 y)
 
-    pub line-level : read .number ≡ 0 → lineOf table read level tested ≡ levelLine level tested
+    pub told-level : read .number ≡ 0 → lineOf table read level tested ≡ levelLine level tested
     unfolding lineOf
-    line-level y = rw (eq-eqb (table .number) 0 z, eq-eqb (read .number) 0 y)
+    told-level y = rw (eq-eqb (table .number) 0 z, eq-eqb (read .number) 0 y)
 
 pub puts-as : (d t u : List ℕ) (r : ℕ) (d′ : List ℕ) → u ≡ t → Puts d 0 t r d′ → Puts d 0 u r d′
 puts-as d t u r d′ e p = subst (λ (t : List ℕ). Puts d 0 t r d′) (sym e) p

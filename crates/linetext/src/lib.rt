@@ -33,23 +33,15 @@ fn put_digit(out: &mut [u8], at: usize, d: usize, wanted: bool) -> usize
     at
 }
 
-// Puts a number below 1,000 in decimal.
-fn put_decimal(out: &mut [u8], at: usize, n: usize) -> usize
-    requires { ⌜ (at + 3 ≤ length (now out)) × (n < 1000) ⌝ }
-    ensures { λ r. ⌜ Puts (now (out .entry)) at (decimal n) r (now (out .exit)) × (r ≤ at + 3) ⌝ }
-{
-    let tens = put_digit(out, at, n / 100, n > 99);
-    let ones = put_digit(out, tens, n / 10 % 10, n > 9);
-    put_digit(out, ones, n % 10, true)
-}
-
-// Puts a text and then a number below 1,000.
+// Puts a text and then a number below 1,000 in decimal.
 fn put_number(out: &mut [u8], at: usize, text: &[u8], n: usize) -> usize
     requires { ⌜ (at + length (now text) + 3 ≤ length (now out)) × (n < 1000) ⌝ }
     ensures { λ r. ⌜ Puts (now (out .entry)) at (now (text .entry) ++ decimal n) r (now (out .exit)) × (r ≤ at + length (now (text .entry)) + 3) ⌝ }
 {
-    let number = put_text(out, at, text);
-    put_decimal(out, number, n)
+    let hundreds = put_text(out, at, text);
+    let tens = put_digit(out, hundreds, n / 100, n > 99);
+    let ones = put_digit(out, tens, n / 10 % 10, n > 9);
+    put_digit(out, ones, n % 10, true)
 }
 
 // Puts the line of a refusal, and answers how many bytes it has.

@@ -1,6 +1,6 @@
 -- `linetext::put_line` meets its contract. Assumes nothing.
 use borrow.Author.Needs.{needs}
-use Rattle.linetext.proofs.Lines.{puts-as, line-table, line-record, line-level}
+use Rattle.linetext.proofs.Lines.{puts-as, told-table, told-record, told-level}
 use Rattle.linetext.proofs.put_line.Statement.{statement}
 use Rattle.linetext.proofs.put_line.Tie as tie
 
@@ -10,10 +10,10 @@ put-line-spec =
     (tie.spec
     (λ c κs. search needs)
     (λ c. search needs)
-    (λ c. search (puts-as, line-table))
+    (λ c. search (puts-as, told-table))
     (λ c κs. search needs)
     (λ c. search needs)
-    (λ c. search (puts-as, line-record))
+    (λ c. search (puts-as, told-record))
     (λ c κs. search needs)
     (λ c. search needs)
-    (λ c. search (puts-as, line-level)))
+    (λ c. search (puts-as, told-level)))
