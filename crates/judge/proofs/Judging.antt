@@ -261,11 +261,11 @@ module _ (s : List ℕ) (wrong n start words : ℕ) (lent : List ℕ) (r : Rewri
 -- what the judge and match ends ask of the rows that are laid, and what they answer
 
 module _ (s : List ℕ) (wrong : ℕ) (xs : List ℕ) (start : ℕ) (d lent : List ℕ) (r : Rewriting) (new d′ : List ℕ) (w : Lays s wrong xs start d lent r new d′) (z : r .verdict .number ≡ 0) where
-  pub laid-root : HasRow (length d′) (r .count - 1)
-  laid-root = root-row s wrong (length xs) start (length d) lent r new (w .settles) z xs d refl refl d′ (w .rows z)
+  pub root-there : HasRow (length d′) (r .count - 1)
+  root-there = root-row s wrong (length xs) start (length d) lent r new (w .settles) z xs d refl refl d′ (w .rows z)
 
-  pub laid-tested : Testing (take (4 * r .count + 6) new) (length xs) d′ (r .count)
-  laid-tested = implies-rows s wrong (length xs) start (length d) lent r new (w .settles) z xs d refl refl d′ (w .rows z)
+  pub tested-there : Testing (take (4 * r .count + 6) new) (length xs) d′ (r .count)
+  tested-there = implies-rows s wrong (length xs) start (length d) lent r new (w .settles) z xs d refl refl d′ (w .rows z)
 
 pub judge-accepted : (s xs d lent : List ℕ) (r : Rewriting) (new d′ : List ℕ) → Lays s sequence xs 0 d lent r new d′ → r .verdict .number ≡ 0
     → (level : Level) → level .number ≡ levelIn d′ (r .count - 1) → (b : Bool) → b ≡ testedIn (take (4 * r .count + 6) new) (length xs) d′ (r .count)

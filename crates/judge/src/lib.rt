@@ -61,8 +61,8 @@ pub fn judge(table: &[u8], samples: &[u64], workspace: &mut [u64]) -> Judgement
     ensures { λ r. ⌜ Judges (now (table .entry)) (now (samples .entry)) (now (workspace .entry)) r (now (workspace .exit)) ⌝ }
 {
     let mut new = [0; 486];
-    let laid = lay(table, SEQUENCE, samples, 0, workspace, &mut new);
-    let verdict = laid.verdict;
+    let settled = lay(table, SEQUENCE, samples, 0, workspace, &mut new);
+    let verdict = settled.verdict;
     if verdict.number != 0 {
         return Judgement {
             verdict,
@@ -70,7 +70,7 @@ pub fn judge(table: &[u8], samples: &[u64], workspace: &mut [u64]) -> Judgement
             tested: false,
         };
     }
-    let m = laid.count;
+    let m = settled.count;
     let used = 4 * m + 6;
     Judgement {
         verdict,
@@ -84,8 +84,8 @@ pub fn match_ends(table: &[u8], samples: &[u64], start: usize, workspace: &mut [
     ensures { λ r. ⌜ EndsMatches (now (table .entry)) (now (samples .entry)) (now (workspace .entry)) start r (now (workspace .exit)) ⌝ }
 {
     let mut new = [0; 486];
-    let laid = lay(table, PROPERTY, samples, start, workspace, &mut new);
-    let verdict = laid.verdict;
+    let settled = lay(table, PROPERTY, samples, start, workspace, &mut new);
+    let verdict = settled.verdict;
     if verdict.number != 0 {
         return MatchEnds {
             verdict,
@@ -93,7 +93,7 @@ pub fn match_ends(table: &[u8], samples: &[u64], start: usize, workspace: &mut [
             top: false,
         };
     }
-    let root = laid.count - 1;
+    let root = settled.count - 1;
     MatchEnds {
         verdict,
         mask: word_at(workspace, root, start),

@@ -24,21 +24,21 @@ through = refl
 
 -- ---- an acceptance says that no case applies, where each answer is a refusal
 
-abbrev pub None : List Case → Type 0
-None [] = Unit {0}
-None (c ∷ cs) = (c .applies ≡ false) × None cs
+abbrev pub NoneApplies : List Case → Type 0
+NoneApplies [] = Unit {0}
+NoneApplies (c ∷ cs) = (c .applies ≡ false) × NoneApplies cs
 
 abbrev pub refuses : List Case → Bool
 refuses [] = true
 refuses (c ∷ cs) = ltb 0 (c .answer .number) && refuses cs
 
-pub none : (cs : List Case) → T (refuses cs) → firstCase cs .number ≡ 0 → None cs
+pub none : (cs : List Case) → T (refuses cs) → firstCase cs .number ≡ 0 → NoneApplies cs
 unfolding firstCase
 none [] t e = tt
 none (c ∷ cs) t e = go (none cs) (c .applies) refl (ltb 0 (c .answer .number)) refl t
   where
-    go : (T (refuses cs) → firstCase cs .number ≡ 0 → None cs) → (b : Bool) → c .applies ≡ b → (l : Bool) → ltb 0 (c .answer .number) ≡ l →
-        T (l && refuses cs) → None (c ∷ cs)
+    go : (T (refuses cs) → firstCase cs .number ≡ 0 → NoneApplies cs) → (b : Bool) → c .applies ≡ b → (l : Bool) → ltb 0 (c .answer .number) ≡ l →
+        T (l && refuses cs) → NoneApplies (c ∷ cs)
     go ih b p false q u = absurd u
     go ih true p true q u =
         let z : c .answer .number ≡ 0 = simp p at e in
@@ -52,7 +52,7 @@ pub after : (cs ds : List Case) → T (refuses cs) → firstCase cs .number ≡ 
 unfolding firstCase
 after cs ds t e = go cs (none cs t e)
   where
-    go : (cs : List Case) → None cs → firstCase (cs ++ ds) ≡ firstCase ds
+    go : (cs : List Case) → NoneApplies cs → firstCase (cs ++ ds) ≡ firstCase ds
     go [] n = refl
     go (c ∷ cs) n = rw (n .0) (go cs (n .1))
 

@@ -1,7 +1,7 @@
 -- `judge::match_ends` meets its contract: a law of Judging.antt at each need. Assumes nothing.
 use native.Mathlib.Omega.{arith}
 use borrow.Author.Needs.{needs}
-use Rattle.judge.proofs.Judging.{start-short, some, laid-root, ends-refused, ends-accepted}
+use Rattle.judge.proofs.Judging.{start-short, some, root-there, ends-refused, ends-accepted}
 use Rattle.judge.proofs.match_ends.Statement.{statement}
 use Rattle.judge.proofs.match_ends.Tie as tie
 
@@ -22,8 +22,8 @@ match-ends-spec =
     (λ c κs.
     let e = c .before .before in
     let l = start-short _ _ _ _ _ _ _ _ (laid e .lay .ensures .settles) (e .if1 .left) in
-    (search laid-root, omega arith))
-    (λ c κs. (search laid-root, search needs))
+    (search root-there, omega arith))
+    (λ c κs. (search root-there, search needs))
     (λ c κs. search (start-short, needs))
     (λ c. search needs)
     (λ c.
