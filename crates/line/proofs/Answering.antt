@@ -28,7 +28,7 @@ use Rattle.settling.proofs.Passing.{judge-passes}
 use Rattle.line.specs.Program.{tablePart, recordPart, samplesOf, cleared, refusals, LineFor, Says}
 use Rattle.linetext.specs.Computed.{lineOf, Puts}
 use Rattle.linetext.proofs.Lines.{told-table, told-record, told-level}
-use Rattle.line.proofs.Parts.{PartsAt}
+use Rattle.line.specs.Computed.{PartsAt}
 
 -- ---- the node of a refusal
 

@@ -7,10 +7,7 @@ use lib.ListN.{length, take, drop, drop-of-length-le}
 use lib.Seq.{take-all, take-length, drop-length}
 use Rattle.refusal.specs.Heading.{count}
 use Rattle.line.specs.Program.{tablePart, recordPart}
-
--- r ends the table part
-abbrev pub PartsAt : List ℕ → ℕ → Type 0
-PartsAt s r = (take r s ≡ tablePart s) × (drop r s ≡ recordPart s)
+use Rattle.line.specs.Computed.{PartsAt}
 
 -- where the bytes are fewer, all there is is the table part
 ends-all : (s : List ℕ) → length s ≤ 6 + 4 * count s → PartsAt s (length s)

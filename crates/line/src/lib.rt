@@ -3,8 +3,9 @@ use judge::judge;
 use linetext::put_line;
 ghost use mathlib.Core.Path.{_≡_};
 ghost use Prim.Native.Nat.{_<_, _≤_};
-ghost use lib.ListN.{length, take, drop};
-ghost use Rattle.line.specs.Program.{tablePart, recordPart, Says};
+ghost use lib.ListN.{length};
+ghost use Rattle.line.specs.Program.{Says};
+ghost use Rattle.line.specs.Computed.{PartsAt};
 
 // The longest line has 19 bytes: `level 3 tested yes` and a newline.
 pub const LONGEST_LINE: usize = 19;
@@ -23,7 +24,7 @@ fn counted(x: u8) -> usize
 // Where the table part ends and the record begins.
 fn table_end(input: &[u8]) -> usize
     ensures { λ r. ⌜ r ≤ length (now (input .entry)) ⌝ }
-    ensures { λ r. ⌜ (take r (now (input .entry)) ≡ tablePart (now (input .entry))) × (drop r (now (input .entry)) ≡ recordPart (now (input .entry))) ⌝ }
+    ensures { λ r. ⌜ PartsAt (now (input .entry)) r ⌝ }
 {
     if input.len() < 6 {
         return input.len();
