@@ -10,7 +10,7 @@ use Rattle.telling.specs.Tells.{some}
 use Rattle.meaning.specs.Words.{Tail, none, tops, bots, other}
 use Rattle.positions.specs.Member.{has}
 use Rattle.nodes.specs.declared.BooleanOp.{BooleanOp}
-use Rattle.nodes.specs.declared.BooleanOp.the-variants.{Constant, Signal, Not, And, Or}
+use Rattle.nodes.specs.declared.BooleanOp.the-variants.{Constant, Signal, Not, And, Or, Risen, Fallen}
 use Rattle.nodes.specs.declared.SequenceOp.{SequenceOp}
 use Rattle.nodes.specs.declared.SequenceOp.the-variants.{Letter, Then, Fused, Either, Empty, Repeat, Clocked}
 use Rattle.nodes.specs.declared.PropertyOp.{PropertyOp}

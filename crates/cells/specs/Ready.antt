@@ -1,7 +1,7 @@
 -- What a call may ask of an operator: its operands' rows lie within the first w words. Assumes nothing.
 use Prim.Native.Nat.{ℕ, _<_}
 use Rattle.nodes.specs.declared.BooleanOp.{BooleanOp}
-use Rattle.nodes.specs.declared.BooleanOp.the-variants.{Constant, Signal, Not, And, Or}
+use Rattle.nodes.specs.declared.BooleanOp.the-variants.{Constant, Signal, Not, And, Or, Risen, Fallen}
 use Rattle.nodes.specs.declared.SequenceOp.{SequenceOp}
 use Rattle.nodes.specs.declared.SequenceOp.the-variants.{Letter, Then, Fused, Either, Empty, Repeat, Clocked}
 use Rattle.nodes.specs.declared.PropertyOp.{PropertyOp}

@@ -4,8 +4,10 @@ use mathlib.Core.Path.{_≡_}
 use mathlib.Core.Bool.{Bool, not, cond, _&&_}
 use mathlib.Core.List.{List}
 use Prim.Native.Nat.{ℕ, _+_, _<_}
-use lib.Dec.{ltb, eqb}
+use lib.Dec.{ltb, leb, eqb}
 use lib.ListN.{getD}
+use Rattle.refusal.specs.Heading.{version}
+use Rattle.nodes.specs.declared.operators.Row.{Row}
 use Rattle.nodes.specs.Operators.{none, sequence}
 use Rattle.nodes.specs.Nodes.{rawAt, rowAt, sortAt, usesOf}
 use Rattle.nodes.specs.Computed.{namedBy}
@@ -15,14 +17,19 @@ use Rattle.nodes.specs.Computed.{namedBy}
 unfoldable pub operandFits : List ℕ → ℕ → ℕ → ℕ → ℕ → Bool
 operandFits s k sort limit v = cond (eqb sort none) (ltb v limit) (ltb v k && eqb (sortAt s v) sort)
 
-unfoldable pub nodeFits : List ℕ → ℕ → Bool
-nodeFits s k =
+abbrev pub isKnownIn : Row → ℕ → Bool
+isKnownIn r v = leb (r .first) v && leb v (r .last)
+
+-- node k, in a table of version v
+unfoldable pub nodeFits : List ℕ → ℕ → ℕ → Bool
+nodeFits s v k =
     not (eqb (sortAt s k) none)
+    && (isKnownIn (rowAt s k) v
     && (eqb (rawAt s k .fourth) 0
-    && (operandFits s k (rowAt s k .x) (rowAt s k .limit) (rawAt s k .x) && operandFits s k (rowAt s k .y) 1 (rawAt s k .y)))
+    && (operandFits s k (rowAt s k .x) (rowAt s k .limit) (rawAt s k .x) && operandFits s k (rowAt s k .y) 1 (rawAt s k .y))))
 
 abbrev pub unfit : List ℕ → ℕ → Bool
-unfit s k = not (nodeFits s k)
+unfit s k = not (nodeFits s (version s) k)
 
 -- ---- 7
 

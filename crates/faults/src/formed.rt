@@ -1,14 +1,16 @@
 // Refusal 6: the lowest node that is not well formed.
 use nodes::node_at;
 use nodes::operators::NONE;
+use nodes::operators::Row;
 use nodes::operators::row_of;
 use nodes::sort_at;
+use refusal::version_of;
 use refusal::wide;
 ghost use mathlib.Core.Path.{_≡_};
 ghost use Prim.Native.Nat.{_+_, _*_, _≤_};
 ghost use lib.ListN.{length};
 ghost use Rattle.refusal.specs.Computed.{first};
-ghost use Rattle.faults.specs.Computed.{operandFits, nodeFits, unfit};
+ghost use Rattle.faults.specs.Computed.{operandFits, isKnownIn, nodeFits, unfit};
 
 // Whether v serves as an operand byte of node k: a plain byte below the limit, or the index of a lower node of the sort.
 fn operand(b: &[u8], k: usize, sort: u8, limit: u8, v: u8) -> bool
@@ -22,14 +24,24 @@ fn operand(b: &[u8], k: usize, sort: u8, limit: u8, v: u8) -> bool
     if i < k { sort_at(b, i) == sort } else { false }
 }
 
-// Whether node k is well formed.
-fn node_fits(b: &[u8], k: usize) -> bool
+// Whether the operator of the row is known in the version.
+fn known_in(r: Row, version: usize) -> bool
+    ensures { λ known. ⌜ known ≡ isKnownIn r version ⌝ }
+{
+    (wide(r.first) <= version) & (version <= wide(r.last))
+}
+
+// Whether node k is well formed in a table of the version.
+fn node_fits(b: &[u8], version: usize, k: usize) -> bool
     requires { ⌜ 4 * k + 10 ≤ length (now b) ⌝ }
-    ensures { λ r. ⌜ r ≡ nodeFits (now (b .entry)) k ⌝ }
+    ensures { λ r. ⌜ r ≡ nodeFits (now (b .entry)) version k ⌝ }
 {
     let n = node_at(b, k);
     let r = row_of(n.op);
     if r.own == NONE {
+        return false;
+    }
+    if !known_in(r, version) {
         return false;
     }
     if n.fourth != 0 {
@@ -47,9 +59,10 @@ pub fn first_unfit(b: &[u8], n: usize) -> usize
     requires { ⌜ 4 * n + 6 ≤ length (now b) ⌝ }
     ensures { λ r. ⌜ r ≡ first (unfit (now (b .entry))) 0 n ⌝ }
 {
+    let version = version_of(b);
     let mut k: usize = 0;
     while k < n {
-        if node_fits(b, k) {
+        if node_fits(b, version, k) {
             k = k + 1;
         } else {
             return k;

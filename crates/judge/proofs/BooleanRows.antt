@@ -12,7 +12,7 @@ use Rattle.meaning.specs.Meaning.{value}
 use Rattle.meaning.specs.Signal.{signal}
 use Rattle.nodes.specs.declared.Node.the-variants.{Boolean}
 use Rattle.nodes.specs.declared.BooleanOp.{BooleanOp}
-use Rattle.nodes.specs.declared.BooleanOp.the-variants.{Constant, Signal, Not, And, Or}
+use Rattle.nodes.specs.declared.BooleanOp.the-variants.{Constant, Signal, Not, And, Or, Risen, Fallen}
 use Rattle.cells.specs.Shares.{longest, wordIn}
 use Rattle.cells.specs.Bits.{booleanBit}
 use Rattle.judge.specs.Rows.{BooleanRow}

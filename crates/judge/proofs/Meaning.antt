@@ -13,7 +13,7 @@ use Rattle.meaning.specs.Syntax.{Bexp, Seq, Prop}
 use Rattle.nodes.specs.declared.Raw.{Raw}
 use Rattle.nodes.specs.declared.Node.{Node}
 use Rattle.nodes.specs.declared.Node.the-variants.{Boolean, Sequence, Property}
-use Rattle.nodes.specs.declared.BooleanOp.the-variants.{Constant, Signal, Not, And, Or}
+use Rattle.nodes.specs.declared.BooleanOp.the-variants.{Constant, Signal, Not, And, Or, Risen, Fallen}
 use Rattle.nodes.specs.declared.SequenceOp.the-variants.{Letter, Then, Fused, Either, Empty, Repeat, Clocked}
 use Rattle.nodes.specs.declared.PropertyOp.the-variants.{Strong, Weak, Negated, AnyOf, BothOf, Implies, Next, Until, Ticked}
 use Rattle.nodes.specs.Operators.{operators, lookup, rowOf, bytesOf, booleanBytes, sequenceBytes, propertyBytes}

@@ -11,7 +11,7 @@ use Rattle.nodes.specs.declared.operators.Row.{Row}
 use Rattle.nodes.specs.declared.Raw.{Raw}
 use Rattle.nodes.specs.declared.Node.{Node}
 use Rattle.nodes.specs.declared.Node.the-variants.{Boolean, Sequence, Property}
-use Rattle.nodes.specs.declared.BooleanOp.the-variants.{Constant, Signal, Not, And, Or}
+use Rattle.nodes.specs.declared.BooleanOp.the-variants.{Constant, Signal, Not, And, Or, Risen, Fallen}
 use Rattle.nodes.specs.declared.SequenceOp.the-variants.{Letter, Then, Fused, Either, Empty, Repeat, Clocked}
 use Rattle.nodes.specs.declared.PropertyOp.the-variants.{Strong, Weak, Negated, AnyOf, BothOf, Implies, Next, Until, Ticked}
 use Rattle.nodes.specs.Operators.{none, operators, lookup, rowOf, nodeOf, bytes, bytesOf, booleanBytes, sequenceBytes, propertyBytes, Written, Decodes}
@@ -52,6 +52,8 @@ decoded (Boolean (Signal x)) = refl
 decoded (Boolean (Not x)) = refl
 decoded (Boolean (And x y)) = refl
 decoded (Boolean (Or x y)) = refl
+decoded (Boolean (Risen x)) = refl
+decoded (Boolean (Fallen x)) = refl
 decoded (Sequence (Letter x)) = refl
 decoded (Sequence (Then x y)) = refl
 decoded (Sequence (Fused x y)) = refl

@@ -9,7 +9,7 @@ use Rattle.nodes.specs.declared.operators.Row.{Row}
 use Rattle.nodes.specs.declared.Raw.{Raw}
 use Rattle.nodes.specs.declared.Node.{Node}
 use Rattle.nodes.specs.declared.Node.the-variants.{Boolean, Sequence, Property}
-use Rattle.nodes.specs.declared.BooleanOp.the-variants.{Constant, Signal, Not, And, Or}
+use Rattle.nodes.specs.declared.BooleanOp.the-variants.{Constant, Signal, Not, And, Or, Risen, Fallen}
 use Rattle.nodes.specs.declared.SequenceOp.the-variants.{Letter, Then, Fused, Either, Empty, Repeat, Clocked}
 use Rattle.nodes.specs.declared.PropertyOp.the-variants.{Strong, Weak, Negated, AnyOf, BothOf, Implies, Next, Until, Ticked}
 use Rattle.nodes.specs.Operators.{none, boolean, sequence, property, operators, unknown, lookup, rowOf, nodeOf, bytesOf, booleanBytes, sequenceBytes, propertyBytes}
@@ -31,6 +31,8 @@ module _ (Q : ℕ → ℕ → Type 0) where
   Formed (Boolean (Not x)) = Q boolean x
   Formed (Boolean (And x y)) = Q boolean x × Q boolean y
   Formed (Boolean (Or x y)) = Q boolean x × Q boolean y
+  Formed (Boolean (Risen x)) = Unit {0}
+  Formed (Boolean (Fallen x)) = Unit {0}
   Formed (Sequence (Letter x)) = Q boolean x
   Formed (Sequence (Then x y)) = Q sequence x × Q sequence y
   Formed (Sequence (Fused x y)) = Q sequence x × Q sequence y
@@ -56,6 +58,8 @@ module _ (Q : ℕ → ℕ → Type 0) where
   formed (Boolean (Not x)) f g = f tt
   formed (Boolean (And x y)) f g = (f tt, g tt)
   formed (Boolean (Or x y)) f g = (f tt, g tt)
+  formed (Boolean (Risen x)) f g = tt
+  formed (Boolean (Fallen x)) f g = tt
   formed (Sequence (Letter x)) f g = f tt
   formed (Sequence (Then x y)) f g = (f tt, g tt)
   formed (Sequence (Fused x y)) f g = (f tt, g tt)

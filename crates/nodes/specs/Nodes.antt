@@ -3,10 +3,10 @@ use mathlib.Core.Path.{_≡_}
 use mathlib.Core.Logic.{_⊎_}
 use mathlib.Core.Bool.{cond}
 use mathlib.Core.List.{List}
-use Prim.Native.Nat.{ℕ, zero, suc, _+_, _*_, _-_, _<_}
+use Prim.Native.Nat.{ℕ, zero, suc, _+_, _*_, _-_, _<_, _≤_}
 use lib.Dec.{eqb}
 use lib.ListN.{getD}
-use Rattle.refusal.specs.Heading.{count}
+use Rattle.refusal.specs.Heading.{version, count}
 use Rattle.nodes.specs.declared.operators.Row.{Row}
 use Rattle.nodes.specs.declared.Raw.{Raw}
 use Rattle.nodes.specs.declared.Node.{Node}
@@ -39,9 +39,14 @@ pub record Operand (s : List ℕ) (k sort limit v : ℕ) : Type 0 where
   pub below : ¬ (sort ≡ none) → v < k
   pub sorted : ¬ (sort ≡ none) → sortAt s v ≡ sort
 
--- a known operator, right x and y, 0 for the fourth byte; an unused operand byte is 0
+-- the operator of the row is known in the version v
+abbrev pub KnownIn : Row → ℕ → Type 0
+KnownIn r v = (r .first ≤ v) × (v ≤ r .last)
+
+-- an operator that is known, in the table's version; right x and y, 0 for the fourth byte; an unused operand byte is 0
 pub record WellFormed (s : List ℕ) (k : ℕ) : Type 0 where
   pub known : ¬ (sortAt s k ≡ none)
+  pub inVersion : KnownIn (rowAt s k) (version s)
   pub x : Operand s k (rowAt s k .x) (rowAt s k .limit) (rawAt s k .x)
   pub y : Operand s k (rowAt s k .y) 1 (rawAt s k .y)
   pub fourth : rawAt s k .fourth ≡ 0

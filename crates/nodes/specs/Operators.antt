@@ -1,6 +1,5 @@
--- Document 01's table of operators: the number of each, the sort of its node and of each operand, the node that it makes of x and y, and the length of
--- its block under a clock.
--- Assumes nothing.
+-- The table of operators, document 01's and, for 5 and 6, document 02's: the number of each, the versions in which it is known, the sort of its node and
+-- of each operand, the length of its block under a clock, and the node that it makes of x and y. Assumes nothing.
 use mathlib.Core.Path.{_≡_}
 use Prim.Native.Nat.{ℕ}
 use mathlib.Core.Bool.{cond}
@@ -11,7 +10,7 @@ use Rattle.nodes.specs.declared.Raw.{Raw}
 use Rattle.nodes.specs.declared.Node.{Node}
 use Rattle.nodes.specs.declared.Node.the-variants.{Boolean, Sequence, Property}
 use Rattle.nodes.specs.declared.BooleanOp.{BooleanOp}
-use Rattle.nodes.specs.declared.BooleanOp.the-variants.{Constant, Signal, Not, And, Or}
+use Rattle.nodes.specs.declared.BooleanOp.the-variants.{Constant, Signal, Not, And, Or, Risen, Fallen}
 use Rattle.nodes.specs.declared.SequenceOp.{SequenceOp}
 use Rattle.nodes.specs.declared.SequenceOp.the-variants.{Letter, Then, Fused, Either, Empty, Repeat, Clocked}
 use Rattle.nodes.specs.declared.PropertyOp.{PropertyOp}
@@ -36,41 +35,45 @@ pub record Entry : Type 0 where
   pub row : Row
   pub make : ℕ → ℕ → Node
 
--- a line whose x is a plain number below a limit: code, own sort, limit, node. y is not used
-abbrev pub plain : ℕ → ℕ → ℕ → (ℕ → ℕ → Node) → Entry
-plain c own limit f = record { code = c; row = record { own = own; x = none; limit = limit; y = none; block = 1 }; make = f }
+-- a line whose x is a plain number below a limit: code, first and last version, own sort, limit, node. y is not used
+abbrev pub plain : ℕ → ℕ → ℕ → ℕ → ℕ → (ℕ → ℕ → Node) → Entry
+plain c first last own limit f =
+    record { code = c; row = record { first = first; last = last; own = own; x = none; limit = limit; y = none; block = 1 }; make = f }
 
--- any other line: code, own sort, sorts of x and y, block length under a clock, node
-abbrev pub entry : ℕ → ℕ → ℕ → ℕ → ℕ → (ℕ → ℕ → Node) → Entry
-entry c own x y block f = record { code = c; row = record { own = own; x = x; limit = 0; y = y; block = block }; make = f }
+-- any other line: code, first and last version, own sort, sorts of x and y, block length under a clock, node
+abbrev pub entry : ℕ → ℕ → ℕ → ℕ → ℕ → ℕ → ℕ → (ℕ → ℕ → Node) → Entry
+entry c first last own x y block f =
+    record { code = c; row = record { first = first; last = last; own = own; x = x; limit = 0; y = y; block = block }; make = f }
 
 unfoldable pub operators : List Entry
 operators =
-    plain 0 boolean 2 (λ x y. Boolean (Constant x))
-    ∷ plain 1 boolean 64 (λ x y. Boolean (Signal x))
-    ∷ entry 2 boolean boolean none 1 (λ x y. Boolean (Not x))
-    ∷ entry 3 boolean boolean boolean 1 (λ x y. Boolean (And x y))
-    ∷ entry 4 boolean boolean boolean 1 (λ x y. Boolean (Or x y))
-    ∷ entry 16 sequence boolean none 9 (λ x y. Sequence (Letter x))
-    ∷ entry 17 sequence sequence sequence 1 (λ x y. Sequence (Then x y))
-    ∷ entry 18 sequence sequence sequence 1 (λ x y. Sequence (Fused x y))
-    ∷ entry 19 sequence sequence sequence 1 (λ x y. Sequence (Either x y))
-    ∷ entry 20 sequence sequence none 1 (λ x y. Sequence (Empty x))
-    ∷ entry 21 sequence sequence none 1 (λ x y. Sequence (Repeat x))
-    ∷ entry 22 sequence boolean sequence 0 (λ x y. Sequence (Clocked x y))
-    ∷ entry 32 property sequence none 1 (λ x y. Property (Strong x))
-    ∷ entry 33 property sequence none 1 (λ x y. Property (Weak x))
-    ∷ entry 34 property property none 1 (λ x y. Property (Negated x))
-    ∷ entry 35 property property property 1 (λ x y. Property (AnyOf x y))
-    ∷ entry 36 property property property 1 (λ x y. Property (BothOf x y))
-    ∷ entry 37 property sequence property 1 (λ x y. Property (Implies x y))
-    ∷ entry 38 property property none 14 (λ x y. Property (Next x))
-    ∷ entry 39 property property property 9 (λ x y. Property (Until x y))
-    ∷ entry 40 property boolean property 0 (λ x y. Property (Ticked x y))
+    plain 0 1 4 boolean 2 (λ x y. Boolean (Constant x))
+    ∷ plain 1 1 4 boolean 64 (λ x y. Boolean (Signal x))
+    ∷ entry 2 1 4 boolean boolean none 1 (λ x y. Boolean (Not x))
+    ∷ entry 3 1 4 boolean boolean boolean 1 (λ x y. Boolean (And x y))
+    ∷ entry 4 1 4 boolean boolean boolean 1 (λ x y. Boolean (Or x y))
+    ∷ plain 5 2 4 boolean 64 (λ x y. Boolean (Risen x))
+    ∷ plain 6 2 4 boolean 64 (λ x y. Boolean (Fallen x))
+    ∷ entry 16 1 4 sequence boolean none 9 (λ x y. Sequence (Letter x))
+    ∷ entry 17 1 4 sequence sequence sequence 1 (λ x y. Sequence (Then x y))
+    ∷ entry 18 1 4 sequence sequence sequence 1 (λ x y. Sequence (Fused x y))
+    ∷ entry 19 1 4 sequence sequence sequence 1 (λ x y. Sequence (Either x y))
+    ∷ entry 20 1 4 sequence sequence none 1 (λ x y. Sequence (Empty x))
+    ∷ entry 21 1 4 sequence sequence none 1 (λ x y. Sequence (Repeat x))
+    ∷ entry 22 1 4 sequence boolean sequence 0 (λ x y. Sequence (Clocked x y))
+    ∷ entry 32 1 4 property sequence none 1 (λ x y. Property (Strong x))
+    ∷ entry 33 1 4 property sequence none 1 (λ x y. Property (Weak x))
+    ∷ entry 34 1 4 property property none 1 (λ x y. Property (Negated x))
+    ∷ entry 35 1 4 property property property 1 (λ x y. Property (AnyOf x y))
+    ∷ entry 36 1 4 property property property 1 (λ x y. Property (BothOf x y))
+    ∷ entry 37 1 4 property sequence property 1 (λ x y. Property (Implies x y))
+    ∷ entry 38 1 4 property property none 14 (λ x y. Property (Next x))
+    ∷ entry 39 1 4 property property property 9 (λ x y. Property (Until x y))
+    ∷ entry 40 1 4 property boolean property 0 (λ x y. Property (Ticked x y))
     ∷ []
 
 abbrev pub unknown : Row
-unknown = record { own = none; x = none; limit = 0; y = none; block = 0 }
+unknown = record { first = 0; last = 0; own = none; x = none; limit = 0; y = none; block = 0 }
 
 -- what the line with the code says, or d where there is no such line
 unfoldable pub lookup : {A : Type 0} → (Entry → A) → A → List Entry → ℕ → A
@@ -95,6 +98,8 @@ booleanBytes (Signal x) = bytes 1 x 0
 booleanBytes (Not x) = bytes 2 x 0
 booleanBytes (And x y) = bytes 3 x y
 booleanBytes (Or x y) = bytes 4 x y
+booleanBytes (Risen x) = bytes 5 x 0
+booleanBytes (Fallen x) = bytes 6 x 0
 
 unfoldable pub sequenceBytes : SequenceOp → Raw
 sequenceBytes (Letter x) = bytes 16 x 0

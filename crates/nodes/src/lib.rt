@@ -51,13 +51,16 @@ pub fn sort_at(b: &[u8], k: usize) -> u8
     r.own
 }
 
-// The kinds of a boolean, operators 0 to 4. A constant has its value and a signal its number; every other number is an operand's index.
+// The kinds of a boolean, operators 0 to 6. A constant has its value, and a signal, one risen and one fallen its number; every other number is an
+// operand's index.
 pub enum BooleanOp {
     Constant(usize),
     Signal(usize),
     Not(usize),
     And(usize, usize),
     Or(usize, usize),
+    Risen(usize),
+    Fallen(usize),
 }
 
 // The kinds of a sequence, operators 16 to 22: one letter, ##1, ##0, or, [*0], [*1:$], @(c).
@@ -104,6 +107,8 @@ pub fn decode(n: Raw) -> Node
         2 => Node::Boolean(BooleanOp::Not(x)),
         3 => Node::Boolean(BooleanOp::And(x, y)),
         4 => Node::Boolean(BooleanOp::Or(x, y)),
+        5 => Node::Boolean(BooleanOp::Risen(x)),
+        6 => Node::Boolean(BooleanOp::Fallen(x)),
         16 => Node::Sequence(SequenceOp::Letter(x)),
         17 => Node::Sequence(SequenceOp::Then(x, y)),
         18 => Node::Sequence(SequenceOp::Fused(x, y)),

@@ -1,10 +1,13 @@
-// Document 01's table of operators as constant rows: each operator fixes the sort of its node and of each operand, and the length of its block.
+// The table of operators as constant rows: each operator fixes the versions in which it is known, the sort of its node and of each operand, and the
+// length of its block.
 ghost use mathlib.Core.Path.{_≡_};
 ghost use Rattle.nodes.specs.Operators.{rowOf};
 
-// What an operator fixes: the node's own sort; the sort of x, or, where that is 0, the number that x is below; the sort of y, 0 for
-// none; and the length of its block in rewriting under a clock.
+// What an operator fixes: the first and the last version in which it is known; the node's own sort; the sort of x, or, where that is 0, the number that x
+// is below; the sort of y, 0 for none; and the length of its block in rewriting under a clock.
 pub struct Row {
+    pub first: u8,
+    pub last: u8,
     pub own: u8,
     pub x: u8,
     pub limit: u8,
@@ -22,6 +25,8 @@ pub const SEQUENCE: u8 = 2;
 pub const PROPERTY: u8 = 3;
 
 const UNKNOWN: Row = Row {
+    first: 0,
+    last: 0,
     own: NONE,
     x: NONE,
     limit: 0,
@@ -30,6 +35,8 @@ const UNKNOWN: Row = Row {
 };
 
 const CONSTANT: Row = Row {
+    first: 1,
+    last: 4,
     own: BOOLEAN,
     x: NONE,
     limit: 2,
@@ -38,6 +45,19 @@ const CONSTANT: Row = Row {
 };
 
 const SIGNAL: Row = Row {
+    first: 1,
+    last: 4,
+    own: BOOLEAN,
+    x: NONE,
+    limit: 64,
+    y: NONE,
+    block: 1,
+};
+
+// A signal risen, or fallen, since the sample before.
+const CHANGE: Row = Row {
+    first: 2,
+    last: 4,
     own: BOOLEAN,
     x: NONE,
     limit: 64,
@@ -46,6 +66,8 @@ const SIGNAL: Row = Row {
 };
 
 const BOOLEAN_NOT: Row = Row {
+    first: 1,
+    last: 4,
     own: BOOLEAN,
     x: BOOLEAN,
     limit: 0,
@@ -54,6 +76,8 @@ const BOOLEAN_NOT: Row = Row {
 };
 
 const BOOLEAN_TWO: Row = Row {
+    first: 1,
+    last: 4,
     own: BOOLEAN,
     x: BOOLEAN,
     limit: 0,
@@ -62,6 +86,8 @@ const BOOLEAN_TWO: Row = Row {
 };
 
 const LETTER: Row = Row {
+    first: 1,
+    last: 4,
     own: SEQUENCE,
     x: BOOLEAN,
     limit: 0,
@@ -70,6 +96,8 @@ const LETTER: Row = Row {
 };
 
 const SEQUENCE_TWO: Row = Row {
+    first: 1,
+    last: 4,
     own: SEQUENCE,
     x: SEQUENCE,
     limit: 0,
@@ -78,6 +106,8 @@ const SEQUENCE_TWO: Row = Row {
 };
 
 const SEQUENCE_ONE: Row = Row {
+    first: 1,
+    last: 4,
     own: SEQUENCE,
     x: SEQUENCE,
     limit: 0,
@@ -86,6 +116,8 @@ const SEQUENCE_ONE: Row = Row {
 };
 
 const SEQUENCE_CLOCK: Row = Row {
+    first: 1,
+    last: 4,
     own: SEQUENCE,
     x: BOOLEAN,
     limit: 0,
@@ -94,6 +126,8 @@ const SEQUENCE_CLOCK: Row = Row {
 };
 
 const OF_SEQUENCE: Row = Row {
+    first: 1,
+    last: 4,
     own: PROPERTY,
     x: SEQUENCE,
     limit: 0,
@@ -102,6 +136,8 @@ const OF_SEQUENCE: Row = Row {
 };
 
 const PROPERTY_NOT: Row = Row {
+    first: 1,
+    last: 4,
     own: PROPERTY,
     x: PROPERTY,
     limit: 0,
@@ -110,6 +146,8 @@ const PROPERTY_NOT: Row = Row {
 };
 
 const PROPERTY_TWO: Row = Row {
+    first: 1,
+    last: 4,
     own: PROPERTY,
     x: PROPERTY,
     limit: 0,
@@ -118,6 +156,8 @@ const PROPERTY_TWO: Row = Row {
 };
 
 const IMPLIES: Row = Row {
+    first: 1,
+    last: 4,
     own: PROPERTY,
     x: SEQUENCE,
     limit: 0,
@@ -126,6 +166,8 @@ const IMPLIES: Row = Row {
 };
 
 const NEXTTIME: Row = Row {
+    first: 1,
+    last: 4,
     own: PROPERTY,
     x: PROPERTY,
     limit: 0,
@@ -134,6 +176,8 @@ const NEXTTIME: Row = Row {
 };
 
 const UNTIL: Row = Row {
+    first: 1,
+    last: 4,
     own: PROPERTY,
     x: PROPERTY,
     limit: 0,
@@ -142,6 +186,8 @@ const UNTIL: Row = Row {
 };
 
 const PROPERTY_CLOCK: Row = Row {
+    first: 1,
+    last: 4,
     own: PROPERTY,
     x: BOOLEAN,
     limit: 0,
@@ -159,6 +205,8 @@ pub fn row_of(op: u8) -> Row
         2 => BOOLEAN_NOT,
         3 => BOOLEAN_TWO,
         4 => BOOLEAN_TWO,
+        5 => CHANGE,
+        6 => CHANGE,
         16 => LETTER,
         17 => SEQUENCE_TWO,
         18 => SEQUENCE_TWO,

@@ -22,12 +22,12 @@ laterCases s words =
     at0 10 (ltb 63 (count s)) ∷ at0 5 (not (eqb (length s) (6 + 8 * count s))) ∷ at0 15 (ltb words (count s)) ∷ []
 
 abbrev pub cases : List ℕ → ℕ → List Case
-cases s words = headingCases 0x57 s ++ laterCases s words
+cases s words = headingCases 0x57 1 s ++ laterCases s words
 
 pub decides : (s : List ℕ) (words : ℕ) → Decides (cases s words) (refusals s words)
 unfolding refusals
 decides s words =
-    decides-append (headingCases 0x57 s) (laterCases s words) (headingRefusals 0x57 s) _ (decides-heading 0x57 s)
+    decides-append (headingCases 0x57 1 s) (laterCases s words) (headingRefusals 0x57 1 s) _ (decides-heading 0x57 1 s)
     (λ _. (
       decided-when 10 (is-lt 63 (count s)),
       λ _. (

@@ -13,7 +13,7 @@ use Rattle.record.specs.Record.{refusals, Reads}
 pub record-singles : (s : List ℕ) (words : ℕ) → Singles (refusals s words)
 unfolding refusals
 record-singles s words =
-    singles-append (headingRefusals 0x57 s) (drop 3 (refusals s words)) (heading-singles 0x57 s)
+    singles-append (headingRefusals 0x57 1 s) (drop 3 (refusals s words)) (heading-singles 0x57 1 s)
     (single-when 10 _, (single-when 5 _, (single-when 15 _, tt)))
 
 pub unique : (s d : List ℕ) (r q : Reading) (d′ e′ : List ℕ) → Reads s d r d′ → Reads s d q e′ → (r ≡ q) × (d′ ≡ e′)

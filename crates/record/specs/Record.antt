@@ -20,7 +20,7 @@ samples s (suc n) = samples s n ++ (sampleAt s n ∷ [])
 -- 1 to 3, more than 63 samples, length disagrees with the count, output too small, in words
 unfoldable pub refusals : List ℕ → ℕ → List Refusal
 refusals s words =
-    headingRefusals 0x57 s
+    headingRefusals 0x57 1 s
     ++ (when 10 (63 < count s) ∷ when 5 (¬ (length s ≡ 6 + 8 * count s)) ∷ when 15 (words < count s) ∷ [])
 
 -- the statement of reading: of the record s and the words d lent, the answer r and the words d′ left

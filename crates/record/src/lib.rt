@@ -67,7 +67,7 @@ fn refused(number: u8, node: usize) -> Reading
 pub fn read(b: &[u8], out: &mut [u64]) -> Reading
     ensures { λ r. ⌜ Reads (now (b .entry)) (now (out .entry)) r (now (out .exit)) ⌝ }
 {
-    let v = refusal::heading(b, 87);
+    let v = refusal::heading(b, 87, 1);
     if v.number != 0 {
         return refused(v.number, v.node);
     }

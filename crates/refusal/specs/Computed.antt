@@ -3,9 +3,10 @@
 use mathlib.Core.Bool.{Bool, not, cond, _&&_}
 use mathlib.Core.List.{List, [], _∷_}
 use Prim.Native.Nat.{ℕ, zero, suc, _-_}
-use lib.Dec.{ltb, eqb}
+use lib.Dec.{ltb, leb, eqb}
 use lib.ListN.{length, getD}
 use Rattle.refusal.specs.declared.Verdict.{Verdict}
+use Rattle.refusal.specs.Heading.{version}
 
 abbrev pub refused : ℕ → ℕ → Verdict
 refused number node = record { number = number; node = node }
@@ -42,9 +43,9 @@ firstCase (c ∷ cs) = cond (c .applies) (c .answer) (firstCase cs)
 unfoldable pub isMarked : ℕ → List ℕ → Bool
 isMarked letter s = eqb (getD s 0 0) 83 && (eqb (getD s 1 0) 86 && eqb (getD s 2 0) letter)
 
-unfoldable pub isVersionOne : List ℕ → Bool
-isVersionOne s = eqb (getD s 3 0) 1 && eqb (getD s 4 0) 0
+abbrev pub isKnown : ℕ → ℕ → Bool
+isKnown newest v = leb 1 v && leb v newest
 
-unfoldable pub headingCases : ℕ → List ℕ → List Case
-headingCases letter s =
-    at0 1 (ltb (length s) 6) ∷ at0 2 (not (isMarked letter s)) ∷ at0 3 (not (isVersionOne s)) ∷ []
+unfoldable pub headingCases : ℕ → ℕ → List ℕ → List Case
+headingCases letter newest s =
+    at0 1 (ltb (length s) 6) ∷ at0 2 (not (isMarked letter s)) ∷ at0 3 (not (isKnown newest (version s))) ∷ []

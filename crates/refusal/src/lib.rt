@@ -4,8 +4,8 @@ ghost use mathlib.Core.Path.{_≡_};
 ghost use Prim.Native.Nat.{_≤_};
 ghost use lib.ListN.{length};
 ghost use Rattle.refusal.specs.First.{Answers};
-ghost use Rattle.refusal.specs.Heading.{headingRefusals};
-ghost use Rattle.refusal.specs.Computed.{isMarked, isVersionOne};
+ghost use Rattle.refusal.specs.Heading.{version, headingRefusals};
+ghost use Rattle.refusal.specs.Computed.{isMarked, isKnown};
 
 // The number of the refusal and its node; an acceptance has number and node 0.
 #[repr(C)]
@@ -35,20 +35,24 @@ fn marked(b: &[u8], letter: u8) -> bool
     b[2] == letter
 }
 
-// Whether the 16-bit version is 1.
-fn version_one(b: &[u8]) -> bool
+// The 16-bit version, its low byte first.
+pub fn version_of(b: &[u8]) -> usize
     requires { ⌜ 6 ≤ length (now b) ⌝ }
-    ensures { λ r. ⌜ r ≡ isVersionOne (now (b .entry)) ⌝ }
+    ensures { λ r. ⌜ r ≡ version (now (b .entry)) ⌝ }
 {
-    if b[3] != 1 {
-        return false;
-    }
-    b[4] == 0
+    wide(b[3]) + 256 * wide(b[4])
 }
 
-// Refusals 1 to 3 of a file whose mark ends with the letter, the first that applies.
-pub fn heading(b: &[u8], letter: u8) -> Verdict
-    ensures { λ r. ⌜ Answers (headingRefusals letter (now (b .entry))) r ⌝ }
+// Whether the version is one of 1 to the newest.
+fn known(newest: usize, v: usize) -> bool
+    ensures { λ r. ⌜ r ≡ isKnown newest v ⌝ }
+{
+    (1 <= v) & (v <= newest)
+}
+
+// Refusals 1 to 3 of a file whose mark ends with the letter, of which versions 1 to the newest are known: the first that applies.
+pub fn heading(b: &[u8], letter: u8, newest: usize) -> Verdict
+    ensures { λ r. ⌜ Answers (headingRefusals letter newest (now (b .entry))) r ⌝ }
 {
     if b.len() < 6 {
         return Verdict { number: 1, node: 0 };
@@ -56,7 +60,7 @@ pub fn heading(b: &[u8], letter: u8) -> Verdict
     if !marked(b, letter) {
         return Verdict { number: 2, node: 0 };
     }
-    if !version_one(b) {
+    if !known(newest, version_of(b)) {
         return Verdict { number: 3, node: 0 };
     }
     Verdict { number: 0, node: 0 }

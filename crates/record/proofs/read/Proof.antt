@@ -21,20 +21,20 @@ use Rattle.record.proofs.Deciding.{laterCases, cases, answered, refuses
 use Rattle.record.proofs.read.Statement.{statement}
 use Rattle.record.proofs.read.Tie as tie
 
-module _ (s d : List ℕ) (v : Verdict) (ev : Answers (headingRefusals 0x57 s) v) where
+module _ (s d : List ℕ) (v : Verdict) (ev : Answers (headingRefusals 0x57 1 s) v) where
   -- the later cases from the ith on are left
   abbrev Left : ℕ → Type 0
   Left i = firstCase (cases s (length d)) ≡ firstCase (drop i (laterCases s (length d)))
 
   opening : ¬ (v .number ≡ 0) → (r : Reading) → r ≡ refusedReading (v .number) (v .node) → Reads s d r d
-  opening h r er = rw er (refuses s d _ (heading-stops 0x57 s v ev h (laterCases s (length d))) h refl)
+  opening h r er = rw er (refuses s d _ (heading-stops 0x57 1 s v ev h (laterCases s (length d))) h refl)
 
   module _ (h : v .number ≡ 0) where
     has-count : 5 < length s
-    has-count = heading-long 0x57 s v ev h
+    has-count = heading-long 0x57 1 s v ev h
 
     left0 : Left 0
-    left0 = heading-passes 0x57 s v ev h (laterCases s (length d))
+    left0 = heading-passes 0x57 1 s v ev h (laterCases s (length d))
 
     module _ (n : ℕ) (en : n ≡ count s) where
       many : 63 < n → (r : Reading) → r ≡ refusedReading 10 0 → Reads s d r d

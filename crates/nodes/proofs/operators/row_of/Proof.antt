@@ -32,4 +32,6 @@ row-of-spec =
     (λ c. ap rowOf (sym (c .match .keys19)))
     (λ c. ap rowOf (sym (c .match .keys20)))
     (λ c. ap rowOf (sym (c .match .keys21)))
+    (λ c. ap rowOf (sym (c .match .keys22)))
+    (λ c. ap rowOf (sym (c .match .keys23)))
     (λ c. sym (past (λ e. e .row) unknown (Unit {0}) operators _ (c .match .rest) .0)))
