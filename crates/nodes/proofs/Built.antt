@@ -1,13 +1,14 @@
--- What a table has that gets none of refusals 4 to 8. Assumes nothing.
+-- What a table has that gets none of refusals 3 to 8. Assumes nothing.
 use mathlib.Core.Path.{_≡_}
 use mathlib.Core.List.{List}
 use Prim.Native.Nat.{ℕ, suc, _+_, _*_, _<_, _≤_}
 use lib.ListN.{length}
-use Rattle.refusal.specs.Heading.{count}
-use Rattle.nodes.specs.Operators.{boolean, sequence}
+use Rattle.refusal.specs.Heading.{version, count, Known}
+use Rattle.nodes.specs.Operators.{boolean, sequence, newest}
 use Rattle.nodes.specs.Nodes.{sortAt, usesOf, root, WellFormed}
 
 pub record Built (s : List ℕ) : Type 0 where
+  pub known : Known newest (version s)
   pub some : 1 ≤ count s
   pub few : count s ≤ 120
   pub long : length s ≡ 4 * count s + 6

@@ -1,4 +1,4 @@
--- In a table that gets none of refusals 4 to 8, each sequence or property node has one clock, whose condition is a boolean. Assumes nothing.
+-- In a table that gets none of refusals 3 to 8, each sequence or property node has one clock, whose condition is a boolean. Assumes nothing.
 use native.Mathlib.Omega.{arith}
 use native.Mathlib.Nat.{eq-or-lt-of-le}
 use mathlib.Core.Path.{_≡_, refl, _∙_, sym, ap, subst}

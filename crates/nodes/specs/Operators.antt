@@ -29,6 +29,10 @@ sequence = 2
 abbrev pub property : ℕ
 property = 3
 
+-- the versions of a table are 1 to this
+abbrev pub newest : ℕ
+newest = 2
+
 -- a line of the document's table: the operator's code, what it fixes, and the node that it makes of x and y
 pub record Entry : Type 0 where
   pub code : ℕ

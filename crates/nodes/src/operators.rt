@@ -24,6 +24,9 @@ pub const SEQUENCE: u8 = 2;
 
 pub const PROPERTY: u8 = 3;
 
+// The versions of a table are 1 to this.
+pub const NEWEST: usize = 2;
+
 const UNKNOWN: Row = Row {
     first: 0,
     last: 0,

@@ -13,7 +13,7 @@ use Rattle.telling.specs.Tells.{Tells}
 use Rattle.telling.proofs.Telling.{is-map, is-and, is-not, is-eq, is-le, is-lt}
 use Rattle.refusal.specs.declared.Verdict.{Verdict}
 use Rattle.refusal.specs.Computed.{Case, firstCase, headingCases, isMarked, isKnown}
-use Rattle.refusal.specs.First.{Answers}
+use Rattle.refusal.specs.First.{Answers, when}
 use Rattle.refusal.specs.Heading.{headingRefusals, Known, mark, version}
 use Rattle.refusal.proofs.Cases.{refuses, none, after, before}
 use Rattle.refusal.proofs.Deciding.{Decides, answers, decided-when}
@@ -47,6 +47,13 @@ version-is (p ∷ q ∷ r ∷ x ∷ y ∷ s) l a b e f = omega arith
 
 known-tells : (newest v : ℕ) → Tells (isKnown newest v) (Known newest v)
 known-tells newest v = is-and (is-le 1 v) (is-le v newest)
+
+-- where 3 is not given the version is known
+pub known-if : (newest v : ℕ) → ((k : ℕ) → ¬ (when 3 (¬ Known newest v)) .given k) → Known newest v
+known-if newest v h = (
+  le-of-suc-le-suc (lt-of-not-le (λ (l : v < 1). h 0 (refl, λ k. let o = k .0 in omega arith))),
+  le-of-suc-le-suc (lt-of-not-le (λ (l : newest < v). h 0 (refl, λ k. let o = k .1 in omega arith))),
+)
 
 pub decides-heading : (letter newest : ℕ) (s : List ℕ) → Decides (headingCases letter newest s) (headingRefusals letter newest s)
 unfolding headingCases

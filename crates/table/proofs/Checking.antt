@@ -12,16 +12,16 @@ use lib.ListN.{length, take, drop}
 use Rattle.telling.specs.Tells.{Tells}
 use Rattle.telling.proofs.Telling.{is-map, is-or, is-and, is-not, is-eq, is-lt, is-le, passed}
 use Rattle.refusal.specs.declared.Verdict.{Verdict}
-use Rattle.refusal.specs.Heading.{count, version, mark, headingRefusals}
+use Rattle.refusal.specs.Heading.{count, version, mark, Known, headingRefusals}
 use Rattle.refusal.specs.First.{LowestSuch, when, atLowest, Answers, NotGiven}
 use Rattle.refusal.specs.Computed.{refused, accepted, at0, atFirst, headingCases}
 use Rattle.refusal.proofs.Firsts.{none-below}
 use Rattle.refusal.proofs.Deciding.{Decided, Decides, decided-when, decided-lowest, decides-append, not-applied, answers}
 use Rattle.refusal.proofs.Given.{Other, reached, beyond, answers-none, none-given}
 use Rattle.refusal.proofs.Unique.{Singles, single-when, single-lowest, singles-append, answers-unique}
-use Rattle.refusal.proofs.Headings.{decides-heading, heading-singles}
+use Rattle.refusal.proofs.Headings.{known-if, decides-heading, heading-singles}
 use Rattle.nodes.specs.declared.Node.{Node}
-use Rattle.nodes.specs.Operators.{boolean, sequence, property}
+use Rattle.nodes.specs.Operators.{boolean, sequence, property, newest}
 use Rattle.nodes.specs.Nodes.{rawAt, rowAt, sortAt, nodeAt, usesOf, root, WellFormed, Astray}
 use Rattle.table.specs.Check.{Asks, by-strong, by-weak, by-implies, Hollow, refusals, Checks}
 use Rattle.faults.specs.Flags.{hollow}
@@ -39,7 +39,7 @@ module _ (s : List ℕ) where
   -- ---- 6
 
   all-formed : ((k : ℕ) → k < count s → unfit s k ≡ false) → (k : ℕ) → k < count s → WellFormed s k
-  all-formed h k l = fits-tells s k .to (passed (not-false (nodeFits s k) (h k l)))
+  all-formed h k l = fits-tells s k .to (passed (not-false (nodeFits s (version s) k) (h k l)))
 
   -- ---- 7
 
@@ -111,10 +111,11 @@ module _ (s : List ℕ) where
   seven : Decided (atFirst 7 (count s) (astray s (count s))) (atLowest 7 (count s) (Astray s (count s)))
   seven = decided-lowest (astray s (count s)) (count s) 7 (λ k l. astray-tells (count s) k)
 
-  built : ((k : ℕ) → ¬ (when 4 ((count s ≡ 0) ⊎ (120 < count s))) .given k) → ((k : ℕ) → ¬ (when 5 (¬ (length s ≡ 6 + 4 * count s))) .given k)
+  built : ((k : ℕ) → ¬ (when 3 (¬ Known newest (version s))) .given k) → ((k : ℕ) → ¬ (when 4 ((count s ≡ 0) ⊎ (120 < count s))) .given k) → ((k : ℕ) → ¬ (when 5 (¬ (length s ≡ 6 + 4 * count s))) .given k)
       → ((k : ℕ) → ¬ LowestSuch (count s) (λ k. ¬ WellFormed s k) k) → ((k : ℕ) → ¬ LowestSuch (count s) (Astray s (count s)) k)
       → ((k : ℕ) → ¬ (when 8 (sortAt s (root s) ≡ boolean)) .given k) → Built s
-  built h4 h5 h6 h7 h8 = record {
+  built h3 h4 h5 h6 h7 h8 = record {
+    known = known-if newest (version s) h3;
     some = pos-of-ne-zero (λ e. h4 0 (refl, inl e));
     few = le-of-suc-le-suc (lt-of-not-le (λ l. h4 0 (refl, inr l)));
     long = eqb-true (length s) (4 * count s + 6) (not-false (eqb (length s) (4 * count s + 6)) (not-applied five h5));
@@ -129,14 +130,14 @@ module _ (s : List ℕ) where
   pub decides : Decides (cases s) (refusals s)
   unfolding laterCases nodeCases refusals
   decides =
-      decides-append (headingCases 0x54 s) (laterCases s) (headingRefusals 0x54 s) _ (decides-heading 0x54 s)
-      (λ _. (
+      decides-append (headingCases 0x54 newest s) (laterCases s) (headingRefusals 0x54 newest s) _ (decides-heading 0x54 newest s)
+      (λ h. (
         decided-when 4 (is-or (is-eq (count s) 0) (is-lt 120 (count s))),
         λ h4. (
           five,
           λ h5. (
             six,
-            λ h6. (seven, λ h7. (decided-when 8 (is-eq (sortAt s (root s)) boolean), λ h8. (nine (built h4 h5 h6 h7 h8), λ _. tt))),
+            λ h6. (seven, λ h7. (decided-when 8 (is-eq (sortAt s (root s)) boolean), λ h8. (nine (built (h .1 .1 .0) h4 h5 h6 h7 h8), λ _. tt))),
           ),
         ),
       ))
@@ -162,7 +163,7 @@ module _ (s : List ℕ) (v : Verdict) (c : Checks s v) where
         (o 2 (omega arith) (omega arith), (o 3 (omega arith) (omega arith), (o 4 (omega arith) (omega arith), (o 5 (omega arith) (omega arith), (o 6 (omega arith) (omega arith), (o 7 (omega arith) (omega arith), (o 8 (omega arith) (omega arith), tt))))))),
       ) in
       let ((h1, (h2, (h3, (h4, (h5, (h6, (h7, (h8, t)))))))), a) = reached (take 8 (refusals s)) (drop 8 (refusals s)) v others c in
-      (built s h4 h5 h6 h7 h8, a)
+      (built s h3 h4 h5 h6 h7 h8, a)
 
   pub sound : v .number ≡ 0 → Sound s
   unfolding refusals Answers
@@ -181,9 +182,9 @@ module _ (s : List ℕ) (v : Verdict) (c : Checks s v) where
       (b, ⊎-elim (λ q. q .1 .such) (λ q. absurd (let e = q .1 .0 in omega arith)) a)
 
   -- a table that gets none of 1 to 8 is refused with 9 or accepted
-  pub nine-or-none : 6 ≤ length s → take 3 s ≡ mark 0x54 → version s ≡ 1 → Built s → (v .number ≡ 9) ⊎ (v ≡ accepted)
+  pub nine-or-none : 6 ≤ length s → take 3 s ≡ mark 0x54 → Built s → (v .number ≡ 9) ⊎ (v ≡ accepted)
   unfolding refusals Answers
-  nine-or-none l m o b =
+  nine-or-none l m b =
       let few : ¬ (120 < count s) = λ g. let f = b .few in omega arith in
       let some : ¬ (count s ≡ 0) = λ e. let f = b .some in omega arith in
       let long : length s ≡ 6 + 4 * count s = let f = b .long in omega arith in
@@ -192,7 +193,7 @@ module _ (s : List ℕ) (v : Verdict) (c : Checks s v) where
         (
           λ k q. q .1 m,
           (
-            λ k q. q .1 o,
+            λ k q. q .1 (b .known),
             (
               λ k q. ⊎-elim some few (q .1),
               (
@@ -236,7 +237,7 @@ module _ (s : List ℕ) where
   pub table-singles : Singles (refusals s)
   unfolding refusals
   table-singles =
-      singles-append (headingRefusals 0x54 s) (drop 3 (refusals s)) (heading-singles 0x54 s)
+      singles-append (headingRefusals 0x54 newest s) (drop 3 (refusals s)) (heading-singles 0x54 newest s)
       (single-when 4 _, (single-when 5 _, (single-lowest 6 _ _, (single-lowest 7 _ _, (single-when 8 _, (single-lowest 9 _ _, tt))))))
 
   -- and so no second verdict fits

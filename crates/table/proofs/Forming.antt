@@ -5,7 +5,8 @@ use mathlib.Core.List.{List}
 use Prim.Native.Nat.{ℕ}
 use lib.Dec.{eqb, ltb}
 use Rattle.telling.specs.Tells.{Tells}
-use Rattle.telling.proofs.Telling.{is-map, is-and, is-not, is-eq, is-lt}
+use Rattle.telling.proofs.Telling.{is-map, is-and, is-not, is-eq, is-le, is-lt}
+use Rattle.refusal.specs.Heading.{version}
 use Rattle.nodes.specs.Operators.{none}
 use Rattle.nodes.specs.Nodes.{rawAt, rowAt, sortAt, Operand, WellFormed}
 use Rattle.faults.specs.Computed.{operandFits, nodeFits}
@@ -22,12 +23,13 @@ operand-tells s k sort limit v = go (is-eq sort none)
         is-map (is-and (is-lt v k) (is-eq (sortAt s v) sort))
         (λ q. record { number = λ z. absurd (h .from z); below = λ _. q .0; sorted = λ _. q .1 }) (λ o. (o .below (h .from), o .sorted (h .from)))
 
-pub fits-tells : (s : List ℕ) (k : ℕ) → Tells (nodeFits s k) (WellFormed s k)
+pub fits-tells : (s : List ℕ) (k : ℕ) → Tells (nodeFits s (version s) k) (WellFormed s k)
 unfolding nodeFits
 fits-tells s k =
     is-map
     (is-and (is-not (is-eq (sortAt s k) none))
+    (is-and (is-and (is-le (rowAt s k .first) (version s)) (is-le (version s) (rowAt s k .last)))
     (is-and (is-eq (rawAt s k .fourth) 0)
-    (is-and (operand-tells s k (rowAt s k .x) (rowAt s k .limit) (rawAt s k .x)) (operand-tells s k (rowAt s k .y) 1 (rawAt s k .y)))))
-    (λ q. record { known = q .0; x = q .1 .1 .0; y = q .1 .1 .1; fourth = q .1 .0 })
-    (λ w. (w .known, (w .fourth, (w .x, w .y))))
+    (is-and (operand-tells s k (rowAt s k .x) (rowAt s k .limit) (rawAt s k .x)) (operand-tells s k (rowAt s k .y) 1 (rawAt s k .y))))))
+    (λ q. record { known = q .0; inVersion = q .1 .0; x = q .1 .1 .1 .0; y = q .1 .1 .1 .1; fourth = q .1 .1 .0 })
+    (λ w. (w .known, (w .inVersion, (w .fourth, (w .x, w .y)))))

@@ -6,7 +6,8 @@ use mathlib.Core.List.{List}
 use Prim.Native.Nat.{ℕ, zero, suc, _<_}
 use Rattle.refusal.specs.Heading.{count}
 use Rattle.meaning.specs.Syntax.{Bexp, Seq, Prop, Clock, free, on}
-use Rattle.table.specs.Trees.{BooleanAt, b-const, b-sig, b-not, b-and, b-or, SequenceAt, s-one, s-cat, s-fuse, s-alt, s-empty, s-plus, s-clock, PropertyAt, p-strong, p-weak, p-neg, p-either, p-both, p-imp, p-next, p-until, p-clock, ClockAt, c-free, c-on}
+use Rattle.meaning.specs.Pairs.{Atom}
+use Rattle.table.specs.Trees.{BooleanAt, b-const, b-sig, b-risen, b-fallen, b-not, b-and, b-or, SequenceAt, s-one, s-cat, s-fuse, s-alt, s-empty, s-plus, s-clock, PropertyAt, p-strong, p-weak, p-neg, p-either, p-both, p-imp, p-next, p-until, p-clock, ClockAt, c-free, c-on}
 use Rattle.nodes.specs.declared.Node.{Node}
 use Rattle.nodes.specs.declared.Node.the-variants.{Boolean, Sequence, Property}
 use Rattle.nodes.specs.declared.BooleanOp.the-variants.{Constant, Signal, Not, And, Or, Risen, Fallen}
@@ -21,13 +22,13 @@ use Rattle.nodes.proofs.Clocking.{OnBoolean}
 
 module _ (s : List ℕ) (n : ℕ) (fit : (k : ℕ) → k < n → WellFormed s k) where
   abbrev Booleans : ℕ → Type 0
-  Booleans k = (b : Bexp ℕ) × BooleanAt (nodeAt s) k b
+  Booleans k = (b : Bexp Atom) × BooleanAt (nodeAt s) k b
 
   abbrev Sequences : ℕ → Type 0
-  Sequences k = (r : Seq ℕ) × SequenceAt (nodeAt s) k r
+  Sequences k = (r : Seq Atom) × SequenceAt (nodeAt s) k r
 
   abbrev Properties : ℕ → Type 0
-  Properties k = (P : Prop ℕ) × PropertyAt (nodeAt s) k P
+  Properties k = (P : Prop Atom) × PropertyAt (nodeAt s) k P
 
   -- m bounds the node from above
   pub boolean-in : (m k : ℕ) → k < m → k < n → sortAt s k ≡ boolean → Booleans k
@@ -38,6 +39,8 @@ module _ (s : List ℕ) (n : ℕ) (fit : (k : ℕ) → k < n → WellFormed s k)
       go : (ih : (x : ℕ) → Suits s k boolean x → Booleans x) → (v : Node) → nodeAt s k ≡ v → Formed (Suits s k) v → sortOf v ≡ boolean → Booleans k
       go ih (Boolean (Constant v)) q f z = (_, b-const q)
       go ih (Boolean (Signal x)) q f z = (_, b-sig q)
+      go ih (Boolean (Risen x)) q f z = (_, b-risen q)
+      go ih (Boolean (Fallen x)) q f z = (_, b-fallen q)
       go ih (Boolean (Not x)) q f z = (_, b-not q (ih x f .1))
       go ih (Boolean (And x y)) q f z = (_, b-and q (ih x (f .0) .1) (ih y (f .1) .1))
       go ih (Boolean (Or x y)) q f z = (_, b-or q (ih x (f .0) .1) (ih y (f .1) .1))
@@ -86,6 +89,6 @@ module _ (s : List ℕ) (n : ℕ) (fit : (k : ℕ) → k < n → WellFormed s k)
       go ih (Sequence o) q f z = absurd (let w : ⊥ = omega arith in w)
 
 -- a clock whose condition is a boolean node stands for a clock
-pub clock-in : (s : List ℕ) → Built s → (ρ : Ref) → OnBoolean s ρ → (κ : Clock ℕ) × ClockAt (nodeAt s) ρ κ
+pub clock-in : (s : List ℕ) → Built s → (ρ : Ref) → OnBoolean s ρ → (κ : Clock Atom) × ClockAt (nodeAt s) ρ κ
 clock-in s ok freeR o = (free, c-free)
 clock-in s ok (onR c) (l, e) = let (b, d) = boolean-in s (count s) (ok .fit) (count s) c l l e in (on b, c-on d)

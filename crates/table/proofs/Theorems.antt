@@ -10,7 +10,7 @@ use Rattle.refusal.proofs.Unique.{answers-unique}
 use Rattle.meaning.specs.Parts.{Tree, seq, prop, Within}
 use Rattle.meaning.specs.Syntax.{Bexp, Seq, Prop, strong, weak, implies, Clock, free}
 use Rattle.meaning.specs.Meaning.{Topped, Accepted}
-use Rattle.meaning.specs.Signal.{signal}
+use Rattle.meaning.specs.Pairs.{Atom, reading}
 use Rattle.meaning.proofs.Entering.{AcceptedTree, within-accepted}
 use Rattle.nodes.specs.declared.Node.{Node}
 use Rattle.nodes.specs.Operators.{boolean, sequence, property}
@@ -44,7 +44,7 @@ ExactlyOne A R = (a : A) × R a × ((b : A) → R b → a ≡ b)
 
 module _ (s : List ℕ) (ok : Built s) where
   -- a node that is no boolean stands for a sequence or a property
-  tree-at : (k : ℕ) → k < count s → ¬ (sortAt s k ≡ boolean) → (t : Tree ℕ) × TreeAt (nodeAt s) k t
+  tree-at : (k : ℕ) → k < count s → ¬ (sortAt s k ≡ boolean) → (t : Tree Atom) × TreeAt (nodeAt s) k t
   tree-at k h b =
       ⊎-elim (λ e. let (r, d) = sequence-in s (count s) (ok .fit) (count s) k h h e in (seq r, t-seq d))
       (λ e. let (P, d) = property-in s (count s) (ok .fit) (count s) k h h e in (prop P, t-prop d))
@@ -61,7 +61,7 @@ module _ (s : List ℕ) (ok : Built s) where
   clocked-sort c-root = ok .rooted
   clocked-sort (c-part {p = p} {k = k} c a) = let h = part-sort s k (ok .fit p (clocked-in c)) a in λ e. omega arith
 
-  read-there : (t : Tree ℕ) → TreeAt (nodeAt s) (root s) t → (k : ℕ) (ρ : Ref) (κ : Clock ℕ) (q : Tree ℕ)
+  read-there : (t : Tree Atom) → TreeAt (nodeAt s) (root s) t → (k : ℕ) (ρ : Ref) (κ : Clock Atom) (q : Tree Atom)
       → ClockOf s k ρ → ClockAt (nodeAt s) ρ κ → TreeAt (nodeAt s) k q → Within free t κ q
   read-there t d k ρ κ q c e f =
       read-under s (ok .fit) (λ j σ g. clocked-in g)
@@ -69,8 +69,8 @@ module _ (s : List ℕ) (ok : Built s) where
       t d c e f
 
   -- a node that asks for the sequence r stands for a property that is accepted only if r is topped
-  asking : (k : ℕ) → k < count s → {v : Node} {x : ℕ} → Asks v x → nodeAt s k ≡ v → {r : Seq ℕ} → SequenceAt (nodeAt s) x r
-      → (Q : Prop ℕ) × PropertyAt (nodeAt s) k Q × ((κ : Clock ℕ) → Accepted signal κ Q → Topped signal κ r)
+  asking : (k : ℕ) → k < count s → {v : Node} {x : ℕ} → Asks v x → nodeAt s k ≡ v → {r : Seq Atom} → SequenceAt (nodeAt s) x r
+      → (Q : Prop Atom) × PropertyAt (nodeAt s) k Q × ((κ : Clock Atom) → Accepted reading κ Q → Topped reading κ r)
   unfolding Accepted
   asking k h by-strong e {r} d = (strong r, p-strong e d, λ κ a. a)
   asking k h by-weak e {r} d = (weak r, p-weak e d, λ κ a. a)
@@ -87,17 +87,17 @@ module _ (s : List ℕ) (v : Verdict) (c : Checks s v) (z : v .number ≡ 0) whe
 
   -- each node stands for exactly one tree, of its sort
   module _ (k : ℕ) (h : k < count s) where
-    pub one-boolean : sortAt s k ≡ boolean → ExactlyOne (Bexp ℕ) (BooleanAt (nodeAt s) k)
+    pub one-boolean : sortAt s k ≡ boolean → ExactlyOne (Bexp Atom) (BooleanAt (nodeAt s) k)
     one-boolean e = let (b, d) = boolean-in s (count s) (ok .fit) (count s) k h h e in (b, d, λ q f. uniqueB d f)
 
-    pub one-sequence : sortAt s k ≡ sequence → ExactlyOne (Seq ℕ) (SequenceAt (nodeAt s) k)
+    pub one-sequence : sortAt s k ≡ sequence → ExactlyOne (Seq Atom) (SequenceAt (nodeAt s) k)
     one-sequence e = let (r, d) = sequence-in s (count s) (ok .fit) (count s) k h h e in (r, d, λ q f. uniqueS d f)
 
-    pub one-property : sortAt s k ≡ property → ExactlyOne (Prop ℕ) (PropertyAt (nodeAt s) k)
+    pub one-property : sortAt s k ≡ property → ExactlyOne (Prop Atom) (PropertyAt (nodeAt s) k)
     one-property e = let (P, d) = property-in s (count s) (ok .fit) (count s) k h h e in (P, d, λ Q f. uniqueP d f)
 
     -- a sequence or property node has exactly one clock: the condition of the nearest clock node above it, if any
-    pub one-clock : (sortAt s k ≡ sequence) ⊎ (sortAt s k ≡ property) → (ρ : Ref) × ClockOf s k ρ × ((σ : Ref) → ClockOf s k σ → ρ ≡ σ) × ExactlyOne (Clock ℕ) (ClockAt (nodeAt s) ρ)
+    pub one-clock : (sortAt s k ≡ sequence) ⊎ (sortAt s k ≡ property) → (ρ : Ref) × ClockOf s k ρ × ((σ : Ref) → ClockOf s k σ → ρ ≡ σ) × ExactlyOne (Clock Atom) (ClockAt (nodeAt s) ρ)
     one-clock e =
         let l : sequence ≤ sortAt s k = ⊎-elim (λ (q : sortAt s k ≡ sequence). omega arith) (λ (q : sortAt s k ≡ property). omega arith) e in
         let (ρ, d, o) = clock-exists s ok k h l in
@@ -105,31 +105,31 @@ module _ (s : List ℕ) (v : Verdict) (c : Checks s v) (z : v .number ≡ 0) whe
         (ρ, d, λ σ f. clock-unique s ok d f, (κ, m, λ μ f. uniqueC m f))
 
   -- the root stands for exactly one tree, a sequence or a property
-  pub one-root : ExactlyOne (Tree ℕ) (TreeAt (nodeAt s) (root s))
+  pub one-root : ExactlyOne (Tree Atom) (TreeAt (nodeAt s) (root s))
   one-root = let (t, d) = tree-at s ok (root s) (in-root s ok) (ok .rooted) in (t, d, λ b f. tree-unique d f)
 
   -- and its clocks are as the page says: each node's tree occurs in the root's, read there under the node's clock
-  pub clocks-as-read : (t : Tree ℕ) → TreeAt (nodeAt s) (root s) t → (k : ℕ) (ρ : Ref) (κ : Clock ℕ) (q : Tree ℕ)
+  pub clocks-as-read : (t : Tree Atom) → TreeAt (nodeAt s) (root s) t → (k : ℕ) (ρ : Ref) (κ : Clock Atom) (q : Tree Atom)
       → ClockOf s k ρ → ClockAt (nodeAt s) ρ κ → TreeAt (nodeAt s) k q → Within free t κ q
   clocks-as-read = read-there s ok
 
   -- a property at the root is accepted by the meaning
-  pub accepted-root : (P : Prop ℕ) → PropertyAt (nodeAt s) (root s) P → Accepted signal free P
+  pub accepted-root : (P : Prop Atom) → PropertyAt (nodeAt s) (root s) P → Accepted reading free P
   accepted-root P d = accepted-at s (count s) (ok .fit) (sound s v c z .solid) d (in-root s ok) free
 
 -- ---- and of one that is refused with 9
 
-refused-tree : (s : List ℕ) (v : Verdict) → Checks s v → v .number ≡ 9 → (t : Tree ℕ) → TreeAt (nodeAt s) (root s) t → ¬ AcceptedTree signal free t
+refused-tree : (s : List ℕ) (v : Verdict) → Checks s v → v .number ≡ 9 → (t : Tree Atom) → TreeAt (nodeAt s) (root s) t → ¬ AcceptedTree reading free t
 refused-tree s v c z t d a =
     let (ok, h) = hollow-one s v c z in
     let (Q, f, topped) = asking s ok (v .node) (clocked-in s ok (h .clocked)) (h .asks) refl (h .stands) in
     let w = read-there s ok t d (v .node) (h .ref) (h .clock) (prop Q) (h .clocked) (h .means) (t-prop f) in
-    h .never (topped (h .clock) (within-accepted signal w a))
+    h .never (topped (h .clock) (within-accepted reading w a))
 
 -- its root is no sequence,
-pub refused-sequence : (s : List ℕ) (v : Verdict) → Checks s v → v .number ≡ 9 → (r : Seq ℕ) → ¬ SequenceAt (nodeAt s) (root s) r
+pub refused-sequence : (s : List ℕ) (v : Verdict) → Checks s v → v .number ≡ 9 → (r : Seq Atom) → ¬ SequenceAt (nodeAt s) (root s) r
 refused-sequence s v c z r d = refused-tree s v c z (seq r) (t-seq d) tt
 
 -- and the property at its root is not accepted by the meaning
-pub refused-root : (s : List ℕ) (v : Verdict) → Checks s v → v .number ≡ 9 → (P : Prop ℕ) → PropertyAt (nodeAt s) (root s) P → ¬ Accepted signal free P
+pub refused-root : (s : List ℕ) (v : Verdict) → Checks s v → v .number ≡ 9 → (P : Prop Atom) → PropertyAt (nodeAt s) (root s) P → ¬ Accepted reading free P
 refused-root s v c z P d a = refused-tree s v c z (prop P) (t-prop d) a

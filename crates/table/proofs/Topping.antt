@@ -12,7 +12,7 @@ use Rattle.telling.proofs.Telling.{is-not, passed}
 use Rattle.meaning.specs.Syntax.{Seq, Prop, Clock, free, on}
 use Rattle.meaning.specs.Words.{top}
 use Rattle.meaning.specs.Meaning.{Topped, Accepted}
-use Rattle.meaning.specs.Signal.{signal}
+use Rattle.meaning.specs.Pairs.{Atom, reading}
 use Rattle.meaning.proofs.Eval.{matchB, plusB, topB}
 use Rattle.meaning.proofs.Leveling.{toppedB, is-topped}
 use Rattle.nodes.specs.declared.Node.{Node}
@@ -46,8 +46,8 @@ module _ (s : List ℕ) where
 -- ---- the tests of matching, of letters ⊤ alone
 
 -- whether no letter matches, and whether some k letters ⊤ do, k at least 1
-abbrev Tested : Clock ℕ → Seq ℕ → Tops
-Tested κ r = flags (matchB signal κ r (λ p. top) 0 0) (topB signal κ r (λ p. top) 0 0)
+abbrev Tested : Clock Atom → Seq Atom → Tops
+Tested κ r = flags (matchB reading κ r (λ p. top) 0 0) (topB reading κ r (λ p. top) 0 0)
 
 then-same : (a b : Tops) → thenTops a b ≡ flags ((a .empty && b .empty) || false) (((a .empty && b .some) || false) || (a .some && (b .empty || b .some)))
 then-same a b = rw (or-false (a .empty && b .empty), or-false (a .empty && b .some))
@@ -60,7 +60,7 @@ repeat-same a = λ i. flags (a .empty) (go (a .empty) (a .some) i)
     go e false = rw (and-false e)
 
 module _ (s : List ℕ) (n : ℕ) (fit : (k : ℕ) → k < n → WellFormed s k) where
-  tested : {k : ℕ} {r : Seq ℕ} → SequenceAt (nodeAt s) k r → k < n → (κ : Clock ℕ) → flagsAt s k ≡ Tested κ r
+  tested : {k : ℕ} {r : Seq Atom} → SequenceAt (nodeAt s) k r → k < n → (κ : Clock Atom) → flagsAt s k ≡ Tested κ r
   unfolding matchB topB plusB some every nodeTops sequenceTops bytesOf sequenceBytes
   tested (s-one e d) h free = rw e
   tested (s-one e d) h (on c) = rw e
@@ -81,9 +81,9 @@ module _ (s : List ℕ) (n : ℕ) (fit : (k : ℕ) → k < n → WellFormed s k)
       let (g, j) = down s k (fit k h) e in
       rw (y-flags s (fit k h) e (j .0), e) (tested d (omega arith) (on b))
 
-  topped-tells : {k : ℕ} {r : Seq ℕ} → SequenceAt (nodeAt s) k r → k < n → (κ : Clock ℕ) → Tells (flagsAt s k .some) (Topped signal κ r)
+  topped-tells : {k : ℕ} {r : Seq Atom} → SequenceAt (nodeAt s) k r → k < n → (κ : Clock Atom) → Tells (flagsAt s k .some) (Topped reading κ r)
   unfolding toppedB
-  topped-tells {r = r} d h κ = subst (λ (t : Tops). Tells (t .some) (Topped signal κ r)) (sym (tested d h κ)) (is-topped signal κ r)
+  topped-tells {r = r} d h κ = subst (λ (t : Tops). Tells (t .some) (Topped reading κ r)) (sym (tested d h κ)) (is-topped reading κ r)
 
   -- ---- what a node asks of its sequence
 
@@ -95,10 +95,10 @@ module _ (s : List ℕ) (n : ℕ) (fit : (k : ℕ) → k < n → WellFormed s k)
     asked by-implies e = let (g, j) = down s k (fit k h) e in (rw (x-flags s (fit k h) e (g .0), e), g .0, g .1)
 
     -- the node is hollow exactly if that sequence is not topped, whatever the clock
-    pub hollow-tells : {x : ℕ} {r : Seq ℕ} → Asks (nodeAt s k) x → SequenceAt (nodeAt s) x r → (κ : Clock ℕ) → Tells (hollow s k) (¬ Topped signal κ r)
+    pub hollow-tells : {x : ℕ} {r : Seq Atom} → Asks (nodeAt s k) x → SequenceAt (nodeAt s) x r → (κ : Clock Atom) → Tells (hollow s k) (¬ Topped reading κ r)
     hollow-tells {r = r} a d κ =
         let (e, l, z) = asked a refl in
-        subst (λ (b : Bool). Tells b (¬ Topped signal κ r)) (sym e) (is-not (topped-tells d (omega arith) κ))
+        subst (λ (b : Bool). Tells b (¬ Topped reading κ r)) (sym e) (is-not (topped-tells d (omega arith) κ))
 
     -- a hollow node asks for a sequence
     pub asks-of : T (hollow s k) → (x : ℕ) × Asks (nodeAt s k) x
@@ -122,12 +122,12 @@ module _ (s : List ℕ) (n : ℕ) (fit : (k : ℕ) → k < n → WellFormed s k)
 
   module _ (solid : (k : ℕ) → k < n → hollow s k ≡ false) where
     -- the test of a sequence that is asked for passes
-    asked-topped : {k x : ℕ} {v : Node} {r : Seq ℕ} → k < n → nodeAt s k ≡ v → Asks v x → SequenceAt (nodeAt s) x r → (κ : Clock ℕ) → Topped signal κ r
+    asked-topped : {k x : ℕ} {v : Node} {r : Seq Atom} → k < n → nodeAt s k ≡ v → Asks v x → SequenceAt (nodeAt s) x r → (κ : Clock Atom) → Topped reading κ r
     asked-topped {k} {x} h e a d κ =
         let (f, l, z) = asked k h a e in
         topped-tells d (omega arith) κ .to (passed (not-false (flagsAt s x .some) (sym f ∙ solid k h)))
 
-    pub accepted-at : {k : ℕ} {P : Prop ℕ} → PropertyAt (nodeAt s) k P → k < n → (κ : Clock ℕ) → Accepted signal κ P
+    pub accepted-at : {k : ℕ} {P : Prop Atom} → PropertyAt (nodeAt s) k P → k < n → (κ : Clock Atom) → Accepted reading κ P
     unfolding Accepted
     accepted-at (p-strong e d) h κ = asked-topped h e by-strong d κ
     accepted-at (p-weak e d) h κ = asked-topped h e by-weak d κ

@@ -7,6 +7,7 @@ use Rattle.telling.proofs.Telling.{is-le}
 use Rattle.refusal.specs.Heading.{count}
 use Rattle.meaning.specs.Syntax.{Seq, Prop, Clock, free}
 use Rattle.meaning.specs.Parts.{Tree, seq, prop, Enters, cat-x, cat-y, fuse-x, fuse-y, alt-x, alt-y, empty-x, plus-x, clocked-x, strong-x, weak-x, neg-x, either-x, either-y, both-x, both-y, implies-x, implies-y, next-x, until-x, until-y, under-x, Within, whole, part}
+use Rattle.meaning.specs.Pairs.{Atom}
 use Rattle.nodes.specs.declared.Raw.{Raw}
 use Rattle.nodes.specs.declared.Node.{Node}
 use Rattle.nodes.specs.declared.Node.the-variants.{Boolean, Sequence, Property}
@@ -19,16 +20,16 @@ use Rattle.table.proofs.Reading.{ReadS, ReadP, readS, readP, uniqueS, u
 
 -- ---- a node stands for one tree, a sequence or a property
 
-one-sort : (T : ℕ → Node) (r : Seq ℕ) (P : Prop ℕ) (v : Node) → ReadS T v r → ReadP T v P → ⊥
+one-sort : (T : ℕ → Node) (r : Seq Atom) (P : Prop Atom) (v : Node) → ReadS T v r → ReadP T v P → ⊥
 one-sort T r P (Boolean o) x y = y
 one-sort T r P (Sequence o) x y = y
 one-sort T r P (Property o) x y = x
 
 -- no node stands for a sequence and for a property
-pub not-both : {T : ℕ → Node} {k : ℕ} {r : Seq ℕ} {P : Prop ℕ} → SequenceAt T k r → PropertyAt T k P → ⊥
+pub not-both : {T : ℕ → Node} {k : ℕ} {r : Seq Atom} {P : Prop Atom} → SequenceAt T k r → PropertyAt T k P → ⊥
 not-both {T} {k} {r} {P} d e = one-sort T r P (T k) (readS d) (readP e)
 
-pub tree-unique : {T : ℕ → Node} {k : ℕ} {a b : Tree ℕ} → TreeAt T k a → TreeAt T k b → a ≡ b
+pub tree-unique : {T : ℕ → Node} {k : ℕ} {a b : Tree Atom} → TreeAt T k a → TreeAt T k b → a ≡ b
 tree-unique (t-seq d) (t-seq e) = ap seq (uniqueS d e)
 tree-unique (t-prop d) (t-prop e) = ap prop (uniqueP d e)
 tree-unique (t-seq d) (t-prop e) = absurd (not-both d e)
@@ -38,13 +39,13 @@ module _ (s : List ℕ) where
   -- ---- from a node to its part
 
   -- q stands at k, and μ is its clock
-  module _ {k : ℕ} (q : Tree ℕ) (t : TreeAt (nodeAt s) k q) (μ : Clock ℕ) where
-    put : {x : ℕ} {κ ν : Clock ℕ} {a b : Tree ℕ} → Enters κ b ν a → TreeAt (nodeAt s) x a → ν ≡ μ → x ≡ k → Enters κ b μ q
+  module _ {k : ℕ} (q : Tree Atom) (t : TreeAt (nodeAt s) k q) (μ : Clock Atom) where
+    put : {x : ℕ} {κ ν : Clock Atom} {a b : Tree Atom} → Enters κ b ν a → TreeAt (nodeAt s) x a → ν ≡ μ → x ≡ k → Enters κ b μ q
     put {x} {κ} {ν} {a} {b} r f e i =
         let z : a ≡ q = tree-unique (subst (λ (j : ℕ). TreeAt (nodeAt s) j a) i f) t in
-        subst (λ (c : Clock ℕ). Enters κ b c q) e (subst (λ (d : Tree ℕ). Enters κ b ν d) z r)
+        subst (λ (c : Clock Atom). Enters κ b c q) e (subst (λ (d : Tree Atom). Enters κ b ν d) z r)
 
-    module _ {p : ℕ} (w : WellFormed s p) (n : Part s p k) {σ : Ref} {κ : Clock ℕ} (c : ClockAt (nodeAt s) σ κ) (d : ClockAt (nodeAt s) (handed (nodeAt s p) σ) μ) where
+    module _ {p : ℕ} (w : WellFormed s p) (n : Part s p k) {σ : Ref} {κ : Clock Atom} (c : ClockAt (nodeAt s) σ κ) (d : ClockAt (nodeAt s) (handed (nodeAt s p) σ) μ) where
       -- what a node of the kind v hands down
       handing : {v : Node} → nodeAt s p ≡ v → ClockAt (nodeAt s) (handed v σ) μ
       handing e = subst (λ (v : Node). ClockAt (nodeAt s) (handed v σ) μ) e d
@@ -59,7 +60,7 @@ module _ (s : List ℕ) where
           go e (at-x h q) f g = f (subst (λ (r : Raw). T (leb sequence (rowOf (r .op) .x))) e (is-le _ _ .from h)) (ap (λ (r : Raw). r .x) (sym e) ∙ q)
           go e (at-y h q) f g = g (subst (λ (r : Raw). T (leb sequence (rowOf (r .op) .y))) e (is-le _ _ .from h)) (ap (λ (r : Raw). r .y) (sym e) ∙ q)
 
-      sequence-enters : {r : Seq ℕ} → SequenceAt (nodeAt s) p r → Enters κ (seq r) μ q
+      sequence-enters : {r : Seq Atom} → SequenceAt (nodeAt s) p r → Enters κ (seq r) μ q
       unfolding rowOf lookup operators bytesOf sequenceBytes
       sequence-enters (s-one e b) = by-place e (λ t _. absurd t) (λ t _. absurd t)
       sequence-enters (s-cat e f g) = let h = uniqueC c (handing e) in by-place e (λ _. put cat-x (t-seq f) h) (λ _. put cat-y (t-seq g) h)
@@ -69,7 +70,7 @@ module _ (s : List ℕ) where
       sequence-enters (s-plus e f) = by-place e (λ _. put plus-x (t-seq f) (uniqueC c (handing e))) (λ t _. absurd t)
       sequence-enters (s-clock e b f) = by-place e (λ t _. absurd t) (λ _. put clocked-x (t-seq f) (uniqueC (c-on b) (handing e)))
 
-      property-enters : {P : Prop ℕ} → PropertyAt (nodeAt s) p P → Enters κ (prop P) μ q
+      property-enters : {P : Prop Atom} → PropertyAt (nodeAt s) p P → Enters κ (prop P) μ q
       unfolding rowOf lookup operators bytesOf propertyBytes
       property-enters (p-strong e f) = by-place e (λ _. put strong-x (t-seq f) (uniqueC c (handing e))) (λ t _. absurd t)
       property-enters (p-weak e f) = by-place e (λ _. put weak-x (t-seq f) (uniqueC c (handing e))) (λ t _. absurd t)
@@ -81,7 +82,7 @@ module _ (s : List ℕ) where
       property-enters (p-until e f g) = let h = uniqueC c (handing e) in by-place e (λ _. put until-x (t-prop f) h) (λ _. put until-y (t-prop g) h)
       property-enters (p-clock e b f) = by-place e (λ t _. absurd t) (λ _. put under-x (t-prop f) (uniqueC (c-on b) (handing e)))
 
-      tree-enters : {b : Tree ℕ} → TreeAt (nodeAt s) p b → Enters κ b μ q
+      tree-enters : {b : Tree Atom} → TreeAt (nodeAt s) p b → Enters κ b μ q
       tree-enters (t-seq f) = sequence-enters f
       tree-enters (t-prop f) = property-enters f
 
@@ -89,11 +90,11 @@ module _ (s : List ℕ) where
 
   -- where each node that has a clock stands for a tree, whose parts are nodes
   module _ (fit : (k : ℕ) → k < count s → WellFormed s k) (inside : (k : ℕ) (ρ : Ref) → ClockOf s k ρ → k < count s)
-      (stands : (k : ℕ) (ρ : Ref) → ClockOf s k ρ → ((t : Tree ℕ) × TreeAt (nodeAt s) k t) × ((κ : Clock ℕ) × ClockAt (nodeAt s) ρ κ))
-      (r : Tree ℕ) (at-root : TreeAt (nodeAt s) (root s) r) where
-    pub read-under : {k : ℕ} {ρ : Ref} {κ : Clock ℕ} {q : Tree ℕ} → ClockOf s k ρ → ClockAt (nodeAt s) ρ κ → TreeAt (nodeAt s) k q → Within free r κ q
+      (stands : (k : ℕ) (ρ : Ref) → ClockOf s k ρ → ((t : Tree Atom) × TreeAt (nodeAt s) k t) × ((κ : Clock Atom) × ClockAt (nodeAt s) ρ κ))
+      (r : Tree Atom) (at-root : TreeAt (nodeAt s) (root s) r) where
+    pub read-under : {k : ℕ} {ρ : Ref} {κ : Clock Atom} {q : Tree Atom} → ClockOf s k ρ → ClockAt (nodeAt s) ρ κ → TreeAt (nodeAt s) k q → Within free r κ q
     read-under {κ = κ} {q = q} c-root d t =
-        subst (λ (μ : Clock ℕ). Within free r μ q) (uniqueC c-free d) (subst (λ (t : Tree ℕ). Within free r free t) (tree-unique at-root t) whole)
+        subst (λ (μ : Clock Atom). Within free r μ q) (uniqueC c-free d) (subst (λ (t : Tree Atom). Within free r free t) (tree-unique at-root t) whole)
     read-under {κ = κ} {q = q} (c-part {p = p} {ρ = σ} c n) d t =
         let ((b, f), (μ, m)) = stands p σ c in
         part (read-under c m f) (tree-enters q t κ (fit p (inside p σ c)) n m d f)

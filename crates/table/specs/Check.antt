@@ -9,11 +9,11 @@ use Rattle.refusal.specs.First.{Refusal, when, atLowest, Answers}
 use Rattle.refusal.specs.Heading.{headingRefusals, count}
 use Rattle.meaning.specs.Syntax.{Seq, Clock}
 use Rattle.meaning.specs.Meaning.{Topped}
-use Rattle.meaning.specs.Signal.{signal}
+use Rattle.meaning.specs.Pairs.{Atom, reading}
 use Rattle.nodes.specs.declared.Node.{Node}
 use Rattle.nodes.specs.declared.Node.the-variants.{Property}
 use Rattle.nodes.specs.declared.PropertyOp.the-variants.{Strong, Weak, Implies}
-use Rattle.nodes.specs.Operators.{boolean}
+use Rattle.nodes.specs.Operators.{boolean, newest}
 use Rattle.nodes.specs.Nodes.{sortAt, nodeAt, root, WellFormed, Astray}
 use Rattle.nodes.specs.NodeClock.{Ref, ClockOf}
 use Rattle.table.specs.Trees.{SequenceAt, ClockAt}
@@ -28,18 +28,18 @@ pub data Asks : Node → ℕ → Type 0 where
 pub record Hollow (s : List ℕ) (k : ℕ) : Type 0 where
   pub x : ℕ
   pub asks : Asks (nodeAt s k) x
-  pub sequence : Seq ℕ
+  pub sequence : Seq Atom
   pub stands : SequenceAt (nodeAt s) x sequence
   pub ref : Ref
   pub clocked : ClockOf s k ref
-  pub clock : Clock ℕ
+  pub clock : Clock Atom
   pub means : ClockAt (nodeAt s) ref clock
-  pub never : ¬ Topped signal clock sequence
+  pub never : ¬ Topped reading clock sequence
 
 -- 1 to 9, in order
 unfoldable pub refusals : List ℕ → List Refusal
 refusals s =
-    headingRefusals 0x54 s
+    headingRefusals 0x54 newest s
     ++ (when 4 ((count s ≡ 0) ⊎ (120 < count s))
     ∷ when 5 (¬ (length s ≡ 6 + 4 * count s))
     ∷ atLowest 6 (count s) (λ k. ¬ WellFormed s k)

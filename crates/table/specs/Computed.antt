@@ -8,7 +8,7 @@ use lib.ListN.{length}
 use Rattle.refusal.specs.declared.Verdict.{Verdict}
 use Rattle.refusal.specs.Computed.{Case, at0, atFirst, firstCase, headingCases}
 use Rattle.refusal.specs.Heading.{count}
-use Rattle.nodes.specs.Operators.{boolean}
+use Rattle.nodes.specs.Operators.{boolean, newest}
 use Rattle.nodes.specs.Nodes.{sortAt}
 use Rattle.faults.specs.Computed.{unfit, astray}
 use Rattle.faults.specs.Flags.{hollow}
@@ -24,7 +24,7 @@ laterCases s =
     at0 4 (eqb (count s) 0 || ltb 120 (count s)) ∷ at0 5 (not (eqb (length s) (4 * count s + 6))) ∷ nodeCases s (count s)
 
 abbrev pub cases : List ℕ → List Case
-cases s = headingCases 0x54 s ++ laterCases s
+cases s = headingCases 0x54 newest s ++ laterCases s
 
 unfoldable pub checked : List ℕ → Verdict
 checked s = firstCase (cases s)

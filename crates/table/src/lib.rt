@@ -4,6 +4,7 @@ use faults::formed::first_unfit;
 use faults::placed::first_astray;
 use faults::topped::first_hollow;
 use nodes::operators::BOOLEAN;
+use nodes::operators::NEWEST;
 use nodes::sort_at;
 use refusal::Verdict;
 use refusal::wide;
@@ -41,7 +42,7 @@ fn check_nodes(b: &[u8], n: usize) -> Verdict
 pub fn check(b: &[u8]) -> Verdict
     ensures { λ r. ⌜ Checks (now (b .entry)) r ⌝ }
 {
-    let heading = refusal::heading(b, 84);
+    let heading = refusal::heading(b, 84, NEWEST);
     if heading.number != 0 {
         return heading;
     }

@@ -13,27 +13,28 @@ use Rattle.refusal.specs.Computed.{firstCase, refused}
 use Rattle.refusal.specs.Heading.{count, headingRefusals}
 use Rattle.refusal.proofs.Cases.{skip, stop}
 use Rattle.refusal.proofs.Headings.{heading-stops, heading-passes, heading-long}
+use Rattle.nodes.specs.Operators.{newest}
 use Rattle.table.specs.Check.{Checks}
 use Rattle.table.specs.Computed.{nodeCases, laterCases, cases, checked}
 use Rattle.table.proofs.Checking.{checks}
 use Rattle.table.proofs.check.Statement.{statement}
 use Rattle.table.proofs.check.Tie as tie
 
-module _ (s : List ℕ) (v : Verdict) (ev : Answers (headingRefusals 0x54 s) v) where
+module _ (s : List ℕ) (v : Verdict) (ev : Answers (headingRefusals 0x54 newest s) v) where
   -- the later cases from the ith on are left
   abbrev Left : ℕ → Type 0
   Left i = firstCase (cases s) ≡ firstCase (drop i (laterCases s))
 
   opening : ¬ (v .number ≡ 0) → Checks s v
   unfolding checked
-  opening h = checks s v (heading-stops 0x54 s v ev h (laterCases s))
+  opening h = checks s v (heading-stops 0x54 newest s v ev h (laterCases s))
 
   module _ (h : v .number ≡ 0) where
     has-count : 5 < length s
-    has-count = heading-long 0x54 s v ev h
+    has-count = heading-long 0x54 newest s v ev h
 
     left0 : Left 0
-    left0 = heading-passes 0x54 s v ev h (laterCases s)
+    left0 = heading-passes 0x54 newest s v ev h (laterCases s)
 
     module _ (n : ℕ) (en : n ≡ count s) where
       no-nodes : n ≡ 0 → Checks s (refused 4 0)
