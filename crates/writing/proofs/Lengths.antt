@@ -95,5 +95,5 @@ module _ (s : List ℕ) (clock : ℕ → Ref) (fit : (k : ℕ) → k < count s �
   pub length-table : length (newTable s clock) ≡ 4 * newCount s clock + 6
   unfolding newTable
   length-table =
-      length-append (heading (newCount s clock)) (encoded (newNodes s clock))
+      length-append (heading s (newCount s clock)) (encoded (newNodes s clock))
       ∙ (let a = length-encoded (newNodes s clock) in let b = length-new in omega arith)

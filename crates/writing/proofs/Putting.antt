@@ -46,9 +46,10 @@ put-four d i a b x y h =
     rw (p, q, r) (sets-eq (a ∷ b ∷ x ∷ y ∷ []) d i h)
 
 -- the stores of the heading
-pub put-six : (d : List ℕ) (m r : ℕ) → 6 ≤ length d → r ≡ m → set (set (set (set (set (set d 0 83) 1 86) 2 84) 3 1) 4 0) 5 r ≡ put d 0 (heading m)
+pub put-six : (s d : List ℕ) (m r : ℕ) → 6 ≤ length d → r ≡ m
+    → set (set (set (set (set (set d 0 83) 1 86) 2 84) 3 (getD s 3 0)) 4 (getD s 4 0)) 5 r ≡ put d 0 (heading s m)
 unfolding put
-put-six d m r h e = rw e (sets-eq (heading m) d 0 h)
+put-six s d m r h e = rw e (sets-eq (heading s m) d 0 h)
 
 -- ---- bytes of nodes
 

@@ -112,16 +112,16 @@ fn put_pass(
     }
 }
 
-// The mark, version 1 and the count.
-fn put_heading(out: &mut [u8], m: usize)
-    requires { ⌜ (m ≤ 120) × (6 ≤ length (now out)) ⌝ }
-    ensures { λ _. ⌜ now (out .exit) ≡ put (now (out .entry)) 0 (heading m) ⌝ }
+// The mark, the version of the table b, and the count.
+fn put_heading(b: &[u8], out: &mut [u8], m: usize)
+    requires { ⌜ (m ≤ 120) × (6 ≤ length (now b)) × (6 ≤ length (now out)) ⌝ }
+    ensures { λ _. ⌜ now (out .exit) ≡ put (now (out .entry)) 0 (heading (now (b .entry)) m) ⌝ }
 {
     out[0] = 83;
     out[1] = 86;
     out[2] = 84;
-    out[3] = 1;
-    out[4] = 0;
+    out[3] = b[3];
+    out[4] = b[4];
     out[5] = low(m);
 }
 
@@ -132,7 +132,7 @@ pub fn put_table(b: &[u8], n: usize, clocks: &[u8], counts: Counts, out: &mut [u
     ensures { λ _. ⌜ now (out .exit) ≡ put (now (out .entry)) 0 (newTable (now (b .entry)) (clockBy (now (clocks .entry)))) ⌝ }
 {
     let numbers = numbers_of(b, n, clocks, counts);
-    put_heading(out, counts.all);
+    put_heading(b, out, counts.all);
     put_pass(b, n, clocks, &numbers, true, out, 0);
     put_pass(b, n, clocks, &numbers, false, out, counts.booleans);
 }
