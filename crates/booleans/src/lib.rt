@@ -4,9 +4,11 @@ use cells::word_at;
 use nodes::BooleanOp;
 use positions::PositionSet;
 ghost use mathlib.Core.Bool.{not, _&&_};
+ghost use mathlib.Core.List.{[]};
 ghost use Prim.Native.Nat.{_≤_, _<_};
 ghost use lib.Dec.{ltb};
 ghost use lib.ListN.{length, getD};
+ghost use Rattle.nodes.specs.declared.BooleanOp.the-variants.{Risen, Fallen};
 ghost use Rattle.positions.specs.Member.{has, Is};
 ghost use Rattle.cells.specs.Shares.{longest, bitIn, HasRow};
 ghost use Rattle.cells.specs.Bits.{booleanBit};
@@ -28,6 +30,24 @@ fn signal_set(samples: &[u64], s: usize) -> PositionSet
     out
 }
 
+// The samples that have the signal s, and at which it has risen since the sample before: the one before the first is all zero.
+fn risen_set(samples: &[u64], s: usize) -> PositionSet
+    requires { ⌜ (length (now samples) ≤ longest) × (s < 64) ⌝ }
+    ensures { λ r. ⌜ Is (r .bits) (booleanBit [] (now (samples .entry)) (Risen s)) ⌝ }
+{
+    let high = signal_set(samples, s);
+    high.without(high.up())
+}
+
+// The samples that do not have the signal s, and at which it has fallen since the sample before.
+fn fallen_set(samples: &[u64], s: usize) -> PositionSet
+    requires { ⌜ (length (now samples) ≤ longest) × (s < 64) ⌝ }
+    ensures { λ r. ⌜ Is (r .bits) (booleanBit [] (now (samples .entry)) (Fallen s)) ⌝ }
+{
+    let high = signal_set(samples, s);
+    high.up().without(high).common(all_samples(samples.len()))
+}
+
 // The samples that do not satisfy row a.
 fn not_set(rows: &[u64], a: usize, n: usize) -> PositionSet
     requires { ⌜ HasRow (length (now rows)) a × (n ≤ longest) ⌝ }
@@ -46,5 +66,7 @@ pub fn boolean_set(rows: &[u64], samples: &[u64], op: BooleanOp) -> PositionSet
         BooleanOp::Not(a) => not_set(rows, a, samples.len()),
         BooleanOp::And(a, b) => word_at(rows, a, 0).common(word_at(rows, b, 0)),
         BooleanOp::Or(a, b) => word_at(rows, a, 0).joined(word_at(rows, b, 0)),
+        BooleanOp::Risen(s) => risen_set(samples, s),
+        BooleanOp::Fallen(s) => fallen_set(samples, s),
     }
 }

@@ -2,7 +2,7 @@
 -- samples, and a bit that no rule sets is 0. `judge/proofs` shows that each rule is what the published meaning says. A rewritten table has no clock node:
 -- of one no bit is set. Assumes nothing.
 use mathlib.Core.Bool.{Bool, true, false, not, _||_, _&&_}
-use mathlib.Core.List.{List}
+use mathlib.Core.List.{List, _∷_}
 use Prim.Native.Nat.{ℕ, zero, suc, _-_}
 use lib.Dec.{eqb, leb, ltb}
 use lib.ListN.{length, getD}
@@ -19,12 +19,18 @@ use Rattle.cells.specs.Shares.{topWord, wordOf, bitIn}
 
 -- ---- boolean: word 0 has bit i where sample i satisfies it
 
+-- the sample before sample i; that before the first is all zero
+abbrev pub sampleBefore : List ℕ → ℕ → ℕ
+sampleBefore xs i = getD (0 ∷ xs) i 0
+
 abbrev pub booleanBit : List ℕ → List ℕ → BooleanOp → ℕ → Bool
 booleanBit rows xs (Constant v) i = ltb i (length xs) && eqb v 1
 booleanBit rows xs (Signal s) i = ltb i (length xs) && has (getD xs i 0) s
 booleanBit rows xs (Not a) i = ltb i (length xs) && not (bitIn rows a 0 i)
 booleanBit rows xs (And a b) i = bitIn rows a 0 i && bitIn rows b 0 i
 booleanBit rows xs (Or a b) i = bitIn rows a 0 i || bitIn rows b 0 i
+booleanBit rows xs (Risen s) i = ltb i (length xs) && (has (getD xs i 0) s && not (has (sampleBefore xs i) s))
+booleanBit rows xs (Fallen s) i = ltb i (length xs) && (not (has (getD xs i 0) s) && has (sampleBefore xs i) s)
 
 -- ---- sequence: word i, for i from 0 to n, has bit j where samples i to j - 1 match
 

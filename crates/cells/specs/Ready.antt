@@ -14,6 +14,8 @@ readyBoolean w (Signal s) = s < 64
 readyBoolean w (Not a) = HasRow w a
 readyBoolean w (And a b) = HasRow w a × HasRow w b
 readyBoolean w (Or a b) = HasRow w a × HasRow w b
+readyBoolean w (Risen s) = s < 64
+readyBoolean w (Fallen s) = s < 64
 
 abbrev pub readySequence : ℕ → SequenceOp → Type 0
 readySequence w (Letter b) = HasRow w b

@@ -11,8 +11,8 @@ use lib.Dec.{eqb}
 use Rattle.refusal.specs.Heading.{count}
 use Rattle.refusal.specs.Computed.{accepted}
 use Rattle.meaning.specs.Syntax.{Seq, Prop, free}
-use Rattle.meaning.specs.Signal.{signal}
 use Rattle.meaning.specs.Rewriting.{rewS, rewP}
+use Rattle.meaning.specs.Pairs.{Atom, reading}
 use Rattle.meaning.proofs.Rewriting.{accepted-rew}
 use Rattle.nodes.specs.Operators.{boolean, sequence}
 use Rattle.nodes.specs.Nodes.{rowAt, sortAt, nodeAt, usesOf, root}
@@ -34,7 +34,7 @@ use Rattle.writing.proofs.Lengths.{block-long, length-table}
 use Rattle.rewrite.proofs.Cells.{last-at, stands-sort}
 use Rattle.rewrite.proofs.Ordering.{is-other, before, stands-in, stands-past, found}
 use Rattle.rewrite.proofs.Trees.{sequence-stands, property-stands}
-use Rattle.rewrite.proofs.Forming.{new-fit}
+use Rattle.rewrite.proofs.Forming.{versions, new-fit}
 use Rattle.rewrite.proofs.Tallies.{top-unused}
 use Rattle.rewrite.proofs.Places.{uses-new}
 
@@ -124,6 +124,7 @@ module _ (s : List ℕ) (sound : Sound s) (clock : ℕ → Ref) (right : Clocks 
   built : m ≤ 120 → Built t
   unfolding newTable
   built h = record {
+    known = versions s ok clock right;
     some = let p = root-new in omega arith;
     few = h;
     long = length-table s clock (ok .fit);
@@ -134,11 +135,11 @@ module _ (s : List ℕ) (sound : Sound s) (clock : ℕ → Ref) (right : Clocks 
 
   -- ---- what its root stands for
 
-  pub sequence-root : (r : Seq ℕ) → SequenceAt (nodeAt s) (root s) r → SequenceAt (nodeAt t) (root t) (rewS free r)
+  pub sequence-root : (r : Seq Atom) → SequenceAt (nodeAt s) (root s) r → SequenceAt (nodeAt t) (root t) (rewS free r)
   sequence-root r d =
       subst (λ (k : ℕ). SequenceAt (nodeAt t) k (rewS free r)) (sym root-at) (sequence-stands s ok clock right d (root-in, root-clock s ok clock right) c-free)
 
-  pub property-root : (P : Prop ℕ) → PropertyAt (nodeAt s) (root s) P → PropertyAt (nodeAt t) (root t) (rewP free P)
+  pub property-root : (P : Prop Atom) → PropertyAt (nodeAt s) (root s) P → PropertyAt (nodeAt t) (root t) (rewP free P)
   property-root P d =
       subst (λ (k : ℕ). PropertyAt (nodeAt t) k (rewP free P)) (sym root-at) (property-stands s ok clock right d (root-in, root-clock s ok clock right) c-free)
 
@@ -152,7 +153,7 @@ module _ (s : List ℕ) (sound : Sound s) (clock : ℕ → Ref) (right : Clocks 
       (λ e.
       let (P, d) = property-in s (count s) (ok .fit) (count s) (root s) root-in root-in e in
       refused-root t (checked t) c z (rewP free P) (property-root P d)
-      (accepted-rew signal free P (accepted-at s (count s) (ok .fit) (sound .solid) d root-in free)))
+      (accepted-rew reading free P (accepted-at s (count s) (ok .fit) (sound .solid) d root-in free)))
       (sorts s (root s) (ok .fit (root s) root-in) (ok .rooted))
 
   pub new-checks : m ≤ 120 → Checks t accepted
@@ -160,4 +161,4 @@ module _ (s : List ℕ) (sound : Sound s) (clock : ℕ → Ref) (right : Clocks 
   new-checks h =
       let c = checks t (checked t) refl in
       let b = built h in
-      ⊎-elim (λ z. absurd (not-nine c z)) (λ e. subst (Checks t) e c) (nine-or-none t (checked t) c (let l = b .long in omega arith) refl refl b)
+      ⊎-elim (λ z. absurd (not-nine c z)) (λ e. subst (Checks t) e c) (nine-or-none t (checked t) c (let l = b .long in omega arith) refl b)

@@ -10,7 +10,8 @@ use Prim.Native.Nat.{ℕ, zero, suc, _+_, _*_, _-_, _<_, _≤_}
 use lib.Dec.{eqb}
 use lib.ListN.{length, getD, List·getD-append}
 use lib.Seq.{getD-append-add}
-use Rattle.refusal.specs.Heading.{count}
+use Rattle.refusal.specs.Heading.{version, count}
+use Rattle.refusal.proofs.Headings.{version-is}
 use Rattle.nodes.specs.declared.Raw.{Raw}
 use Rattle.nodes.specs.Operators.{operators, lookup, rowOf, bytesOf, booleanBytes, sequenceBytes, propertyBytes}
 use Rattle.nodes.specs.Nodes.{rawAt, rowAt, sortAt, WellFormed}
@@ -36,14 +37,14 @@ encoded-at (r ∷ rs) zero j l h = let e : 4 * 0 + j ≡ j = omega arith in rw e
 encoded-at (r ∷ rs) (suc q) j l h =
     let e : 4 * suc q + j ≡ suc (suc (suc (suc (4 * q + j)))) = omega arith in rw e (encoded-at rs q j l (le-of-suc-le-suc h))
 
-module _ (m : ℕ) (rs : List Raw) (q : ℕ) (h : q < length rs) where
-  byte : (i j : ℕ) → j < 4 → i ≡ 4 * q + 6 + j → getD (heading m ++ encoded rs) i 0 ≡ getD (fourBytes (getD rs q blank)) j 0
+module _ (s : List ℕ) (m : ℕ) (rs : List Raw) (q : ℕ) (h : q < length rs) where
+  byte : (i j : ℕ) → j < 4 → i ≡ 4 * q + 6 + j → getD (heading s m ++ encoded rs) i 0 ≡ getD (fourBytes (getD rs q blank)) j 0
   byte i j l e =
       let z : i ≡ 6 + (4 * q + j) = omega arith in
-      rw z (getD-append-add (heading m) (encoded rs) (4 * q + j) 0 ∙ encoded-at rs q j l h)
+      rw z (getD-append-add (heading s m) (encoded rs) (4 * q + j) 0 ∙ encoded-at rs q j l h)
 
   -- node q of a heading and the bytes of nodes
-  raw-of : rawAt (heading m ++ encoded rs) q ≡ getD rs q blank
+  raw-of : rawAt (heading s m ++ encoded rs) q ≡ getD rs q blank
   raw-of =
       let a = byte (4 * q + 6) 0 (omega arith) (omega arith) in
       let b = byte (4 * q + 6 + 1) 1 (omega arith) refl in
@@ -67,6 +68,12 @@ last-sort ν ρ at r e = go (view ρ (r .op))
     go (of-next c u o) = ap lastOwn (next-is ν ρ at r c u o) ∙ ap (λ (p : ℕ). rowOf p .own) (sym o)
     go (of-until c u o) = ap lastOwn (until-is ν ρ at r c u o) ∙ ap (λ (p : ℕ). rowOf p .own) (sym o)
 
+-- ---- the version is copied
+
+pub version-new : (s : List ℕ) (clock : ℕ → Ref) → 6 ≤ length s → version (newTable s clock) ≡ version s
+unfolding newTable
+version-new s clock l = let e = version-is s l (getD s 3 0) (getD s 4 0) refl refl in omega arith
+
 -- ---- the list of new nodes
 
 past : {A : Type 0} (p q : List A) (n i : ℕ) (d : A) → length p ≡ n → getD (p ++ q) (n + i) d ≡ getD q i d
@@ -75,7 +82,7 @@ past p q n i d h = rw (← h) (getD-append-add p q i d)
 module _ (s : List ℕ) (clock : ℕ → Ref) (fit : (k : ℕ) → k < count s → WellFormed s k) where
   pub raw-at : (q : ℕ) → q < newCount s clock → rawAt (newTable s clock) q ≡ getD (newNodes s clock) q blank
   unfolding newTable
-  raw-at q h = raw-of (newCount s clock) (newNodes s clock) q (let e = length-new s clock fit in omega arith)
+  raw-at q h = raw-of s (newCount s clock) (newNodes s clock) q (let e = length-new s clock fit in omega arith)
 
   module _ (test : ℕ → Bool) (k i : ℕ) (passes : test k ≡ true) (l : i < length (blockOf s clock k)) where
     -- what k gives ends before what a later node gives

@@ -6,7 +6,7 @@ use mathlib.Core.Bool.{cond, _||_}
 use mathlib.Core.List.{List, [], _∷_}
 use Prim.Native.Nat.{ℕ, zero, suc}
 use lib.Dec.{eqb}
-use Rattle.refusal.specs.Computed.{accepted, firstOf, firstCase, headingCases, isMarked, isVersionOne}
+use Rattle.refusal.specs.Computed.{accepted, firstOf, firstCase, headingCases, isMarked}
 use Rattle.nodes.specs.Operators.{operators, lookup, rowOf, nodeOf, bytesOf, booleanBytes, sequenceBytes, propertyBytes}
 use Rattle.nodes.specs.Nodes.{sortAt, hitsOf, usesOf}
 use Rattle.nodes.specs.NodeClock.{Ref, freeR, onR, at-x, at-y, c-root, c-part}
@@ -59,7 +59,7 @@ abbrev clockC : ℕ → Ref
 clockC k = cond (eqb k 2 || eqb k 3) (onR 1) freeR
 
 is-accepted : Checks clocked accepted
-unfolding checked laterCases nodeCases operandFits nodeFits astray hollow hollowNode hollowProperty topsBelow nodeTops sequenceTops sortAt hitsOf usesOf rowOf nodeOf lookup operators firstOf firstCase headingCases isMarked isVersionOne
+unfolding checked laterCases nodeCases operandFits nodeFits astray hollow hollowNode hollowProperty topsBelow nodeTops sequenceTops sortAt hitsOf usesOf rowOf nodeOf lookup operators firstOf firstCase headingCases isMarked
 is-accepted = checks clocked accepted refl
 
 computed : newTable clocked clockC ≡ twelve

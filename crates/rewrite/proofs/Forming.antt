@@ -10,10 +10,10 @@ use Prim.Native.Nat.{ℕ, _+_, _<_, _≤_}
 use lib.Dec.{eqb}
 use lib.ListN.{length, getD}
 use Rattle.telling.proofs.Telling.{side}
-use Rattle.refusal.specs.Heading.{count}
+use Rattle.refusal.specs.Heading.{version, count, Known}
 use Rattle.nodes.specs.declared.Raw.{Raw}
-use Rattle.nodes.specs.Operators.{none, boolean, sequence, property, operators, lookup, rowOf}
-use Rattle.nodes.specs.Nodes.{rawAt, rowAt, sortAt, Operand, WellFormed}
+use Rattle.nodes.specs.Operators.{none, boolean, sequence, property, newest, operators, lookup, rowOf}
+use Rattle.nodes.specs.Nodes.{rawAt, rowAt, sortAt, Operand, KnownIn, WellFormed}
 use Rattle.nodes.specs.NodeClock.{Ref, onR}
 use Rattle.nodes.proofs.Built.{Built}
 use Rattle.nodes.proofs.Placing.{fine-row}
@@ -24,7 +24,7 @@ use Rattle.blocks.specs.Blocks.{moved, movedNode}
 use Rattle.blocks.specs.Computed.{blank}
 use Rattle.blocks.proofs.Viewing.{none-is, single-is, letter-is, next-is, until-is, View, of-none, of-single, of-letter, of-next, of-until, view}
 use Rattle.writing.specs.Tables.{blockOf, newTable}
-use Rattle.rewrite.proofs.Cells.{cell-at, cell-sort, stands-sort}
+use Rattle.rewrite.proofs.Cells.{version-new, cell-at, cell-sort, stands-sort}
 use Rattle.rewrite.proofs.Ordering.{other-is, boolean-before, other-before, found}
 use Rattle.rewrite.proofs.Fitting.{AllFrom, all-at, Right, Lower, lower, Sorted, letter-right, next-right, until-right}
 
@@ -34,6 +34,12 @@ module _ (s : List ℕ) (ok : Built s) (clock : ℕ → Ref) (right : Clocks s c
 
   abbrev ν : ℕ → ℕ
   ν = numberOf s clock
+
+  same-version : version t ≡ version s
+  same-version = version-new s clock (let l = ok .long in omega arith)
+
+  pub versions : Known newest (version t)
+  versions = subst (Known newest) (sym same-version) (ok .known)
 
   module _ (k : ℕ) (h : k < count s) where
     abbrev at : ℕ
@@ -73,6 +79,7 @@ module _ (s : List ℕ) (ok : Built s) (clock : ℕ → Ref) (right : Clocks s c
         let w = ok .fit k h in
         record {
           known = w .known;
+          inVersion = subst (KnownIn (rowAt s k)) (sym same-version) (w .inVersion);
           x = operand-new (rowAt s k .x) (rowAt s k .limit) (raw .x) (w .x) (fine-row (raw .op) .1);
           y = operand-new (rowAt s k .y) 1 (raw .y) (w .y) (fine-row (raw .op) .2);
           fourth = refl;
@@ -124,15 +131,15 @@ module _ (s : List ℕ) (ok : Built s) (clock : ℕ → Ref) (right : Clocks s c
         go (of-letter c e o) =
             let z = letter-is ν (clock k) at raw c e o in
             subst All (sym z)
-            (letter-right t at (ν c) (condition c e 16 o (omega arith)) (ν (raw .x)) (operand-x c e 16 o (omega arith) boolean refl (λ y. omega arith)) (sorts _ z))
+            (letter-right t versions at (ν c) (condition c e 16 o (omega arith)) (ν (raw .x)) (operand-x c e 16 o (omega arith) boolean refl (λ y. omega arith)) (sorts _ z))
         go (of-next c e o) =
             let z = next-is ν (clock k) at raw c e o in
             subst All (sym z)
-            (next-right t at (ν c) (condition c e 38 o (omega arith)) (ν (raw .x)) (operand-x c e 38 o (omega arith) property refl (λ y. omega arith)) (sorts _ z))
+            (next-right t versions at (ν c) (condition c e 38 o (omega arith)) (ν (raw .x)) (operand-x c e 38 o (omega arith) property refl (λ y. omega arith)) (sorts _ z))
         go (of-until c e o) =
             let z = until-is ν (clock k) at raw c e o in
             subst All (sym z)
-            (until-right t at (ν c) (condition c e 39 o (omega arith)) (ν (raw .x)) (ν (raw .y)) (operand-x c e 39 o (omega arith) property refl (λ y. omega arith))
+            (until-right t versions at (ν c) (condition c e 39 o (omega arith)) (ν (raw .x)) (ν (raw .y)) (operand-x c e 39 o (omega arith) property refl (λ y. omega arith))
             (operand-y c e 39 o (omega arith) property refl (λ y. omega arith)) (sorts _ z))
 
   -- ---- the whole table
@@ -147,7 +154,7 @@ module _ (s : List ℕ) (ok : Built s) (clock : ℕ → Ref) (right : Clocks s c
 
   pub new-fit : (q : ℕ) → q < newCount s clock → WellFormed t q
   unfolding sortAt
-  new-fit q l = let r = new-right q l in record { known = r .known; x = r .x; y = r .y; fourth = r .fourth }
+  new-fit q l = let r = new-right q l in record { known = r .known; inVersion = r .inVersion; x = r .x; y = r .y; fourth = r .fourth }
 
   pub new-clockless : (q : ℕ) → q < newCount s clock → isClock t q ≡ false
   unfolding isClock

@@ -13,8 +13,8 @@ use Rattle.refusal.specs.Computed.{accepted}
 use Rattle.meaning.specs.Syntax.{Seq, Prop, free}
 use Rattle.meaning.specs.Words.{word}
 use Rattle.meaning.specs.Meaning.{Match, Sat, Level}
-use Rattle.meaning.specs.Signal.{signal}
 use Rattle.meaning.specs.Rewriting.{rewS, rewP}
+use Rattle.meaning.specs.Pairs.{Atom, reading}
 use Rattle.meaning.proofs.Rewriting.{match-rew, sat-rew, level-rew}
 use Rattle.nodes.specs.Nodes.{rawAt, sortAt, WellFormed}
 use Rattle.nodes.specs.NodeClock.{Ref}
@@ -33,6 +33,7 @@ use Rattle.rewrite.specs.Rewrites.{Rewrites}
 use Rattle.rewrite.specs.Keeps.{Keeps}
 use Rattle.rewrite.proofs.Deciding.{table-accepted, few-new}
 use Rattle.rewrite.proofs.Forming.{new-clockless}
+use Rattle.rewrite.proofs.Cells.{version-new}
 use Rattle.rewrite.proofs.Accepting.{count-new, new-checks, sequence-root, property-root}
 
 -- m is at most 14 times the count, whatever the clocks
@@ -49,23 +50,24 @@ module _ (s : List ℕ) (v : Verdict) (c : Checks s v) (z : v .number ≡ 0) (cl
   ok : Sound s
   ok = sound s v c z
 
-  same-sequence : (r q : Seq ℕ) → RootS s r → RootS (newTable s clock) q → rewS free r ≡ q
+  same-sequence : (r q : Seq Atom) → RootS s r → RootS (newTable s clock) q → rewS free r ≡ q
   same-sequence r q d e = uniqueS (sequence-root s ok clock right r d) e
 
-  same-property : (P Q : Prop ℕ) → RootP s P → RootP (newTable s clock) Q → rewP free P ≡ Q
+  same-property : (P Q : Prop Atom) → RootP s P → RootP (newTable s clock) Q → rewP free P ≡ Q
   same-property P Q d e = uniqueP (property-root s ok clock right P d) e
 
   -- is itself accepted, has no clock node and says the same
   pub rewriting-keeps : Keeps s (newTable s clock)
   rewriting-keeps = record {
     checks = λ l. new-checks s ok clock right (let e = count-new s ok clock right in omega arith);
+    copied = version-new s clock (let l = ok .formed .long in omega arith);
     clockless = λ k l. new-clockless s (ok .formed) clock right k (let e = count-new s ok clock right in omega arith);
     sequence = sequence-root s ok clock right;
     property = property-root s ok clock right;
-    matches = λ r q d e w i j. subst (λ (q : Seq ℕ). Match signal free r w i j ↔ Match signal free q w i j) (same-sequence r q d e) (match-rew signal free r w i j);
+    matches = λ r q d e w i j. subst (λ (q : Seq Atom). Match reading free r w i j ↔ Match reading free q w i j) (same-sequence r q d e) (match-rew reading free r w i j);
     answers = λ P Q d e xs t i.
-        subst (λ (Q : Prop ℕ). Sat signal free P (word xs t) i ↔ Sat signal free Q (word xs t) i) (same-property P Q d e) (sat-rew signal free P xs t i);
-    levels = λ P Q d e xs m. subst (λ (Q : Prop ℕ). Level signal P xs m ↔ Level signal Q xs m) (same-property P Q d e) (level-rew signal P xs m);
+        subst (λ (Q : Prop Atom). Sat reading free P (word xs t) i ↔ Sat reading free Q (word xs t) i) (same-property P Q d e) (sat-rew reading free P xs t i);
+    levels = λ P Q d e xs m. subst (λ (Q : Prop Atom). Level reading P xs m ↔ Level reading Q xs m) (same-property P Q d e) (level-rew reading P xs m);
   }
 
 -- ---- what `rewrite` leaves in the first 6 + 4m bytes lent, where it accepts

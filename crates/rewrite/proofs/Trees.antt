@@ -10,12 +10,13 @@ use lib.Dec.{eqb, leb, leb→le}
 use Rattle.refusal.specs.Heading.{count}
 use Rattle.meaning.specs.Syntax.{Bexp, Seq, Prop, Clock}
 use Rattle.meaning.specs.Rewriting.{rewS, rewP}
+use Rattle.meaning.specs.Pairs.{Atom}
 use Rattle.nodes.specs.declared.Raw.{Raw}
 use Rattle.nodes.specs.declared.Node.{Node}
 use Rattle.nodes.specs.Operators.{sequence, operators, lookup, rowOf, nodeOf, bytesOf, booleanBytes, sequenceBytes, propertyBytes}
 use Rattle.nodes.specs.Nodes.{rawAt, nodeAt}
 use Rattle.nodes.specs.NodeClock.{Ref, freeR, onR, handed}
-use Rattle.table.specs.Trees.{BooleanAt, b-const, b-sig, b-not, b-and, b-or, SequenceAt, s-one, s-cat, s-fuse, s-alt, s-empty, s-plus, s-clock, PropertyAt, p-strong, p-weak, p-neg, p-either, p-both, p-imp, p-next, p-until, p-clock, ClockAt, c-free, c-on}
+use Rattle.table.specs.Trees.{BooleanAt, b-const, b-sig, b-risen, b-fallen, b-not, b-and, b-or, SequenceAt, s-one, s-cat, s-fuse, s-alt, s-empty, s-plus, s-clock, PropertyAt, p-strong, p-weak, p-neg, p-either, p-both, p-imp, p-next, p-until, p-clock, ClockAt, c-free, c-on}
 use Rattle.nodes.proofs.Built.{Built}
 use Rattle.nodes.proofs.Coded.{coded-as}
 use Rattle.nodes.proofs.Shapes.{Formed, Suits, down}
@@ -80,21 +81,23 @@ module _ (s : List ℕ) (ok : Built s) (clock : ℕ → Ref) (right : Clocks s c
 
   -- ---- booleans
 
-  boolean-stands : {k : ℕ} {b : Bexp ℕ} → BooleanAt T k b → k < n → BooleanAt N (ν k) b
+  boolean-stands : {k : ℕ} {b : Bexp Atom} → BooleanAt T k b → k < n → BooleanAt N (ν k) b
   unfolding moved movedNode rowOf nodeOf lookup operators bytesOf booleanBytes
   boolean-stands (b-const e) l = b-const (copied l e refl refl)
   boolean-stands (b-sig e) l = b-sig (copied l e refl refl)
+  boolean-stands (b-risen e) l = b-risen (copied l e refl refl)
+  boolean-stands (b-fallen e) l = b-fallen (copied l e refl refl)
   boolean-stands (b-not e d) l = b-not (copied l e refl refl) (boolean-stands d (inside l (goes l e)))
   boolean-stands (b-and e d f) l = let (g, j) = goes l e in b-and (copied l e refl refl) (boolean-stands d (inside l g)) (boolean-stands f (inside l j))
   boolean-stands (b-or e d f) l = let (g, j) = goes l e in b-or (copied l e refl refl) (boolean-stands d (inside l g)) (boolean-stands f (inside l j))
 
   -- the condition of a node's clock
-  condition : {k c : ℕ} {b : Bexp ℕ} → Has k (onR c) → BooleanAt T c b → BooleanAt N (ν c) b
+  condition : {k c : ℕ} {b : Bexp Atom} → Has k (onR c) → BooleanAt T c b → BooleanAt N (ν c) b
   condition {k} {c} h d = boolean-stands d (clock-boolean s ok clock right k c (h .1) .0)
 
   -- ---- sequences
 
-  pub sequence-stands : {k : ℕ} {r : Seq ℕ} {ρ : Ref} {κ : Clock ℕ} → SequenceAt T k r → Has k ρ → ClockAt T ρ κ → SequenceAt N (ν k) (rewS κ r)
+  pub sequence-stands : {k : ℕ} {r : Seq Atom} {ρ : Ref} {κ : Clock Atom} → SequenceAt T k r → Has k ρ → ClockAt T ρ κ → SequenceAt N (ν k) (rewS κ r)
   unfolding rewS moved movedNode rowOf nodeOf lookup operators bytesOf sequenceBytes movedBlock underBlock blockUnder
   sequence-stands (s-one e d) h c-free = s-one (free-copied h e refl) (boolean-stands d (inside (h .0) (goes (h .0) e)))
   sequence-stands {k} (s-one {x = x} e d) h (c-on {c = c} b) =
@@ -115,7 +118,7 @@ module _ (s : List ℕ) (ok : Built s) (clock : ℕ → Ref) (right : Clocks s c
 
   -- ---- properties
 
-  pub property-stands : {k : ℕ} {P : Prop ℕ} {ρ : Ref} {κ : Clock ℕ} → PropertyAt T k P → Has k ρ → ClockAt T ρ κ → PropertyAt N (ν k) (rewP κ P)
+  pub property-stands : {k : ℕ} {P : Prop Atom} {ρ : Ref} {κ : Clock Atom} → PropertyAt T k P → Has k ρ → ClockAt T ρ κ → PropertyAt N (ν k) (rewP κ P)
   unfolding rewP moved movedNode rowOf nodeOf lookup operators bytesOf sequenceBytes propertyBytes movedBlock underBlock blockUnder
   property-stands (p-strong e d) h c = p-strong (copied (h .0) e refl refl) (sequence-stands d (part h e (goes (h .0) e) tt) c)
   property-stands (p-weak e d) h c = p-weak (copied (h .0) e refl refl) (sequence-stands d (part h e (goes (h .0) e) tt) c)
