@@ -3,6 +3,9 @@
  * Each takes any bytes, samples and sizes, and tests them itself. A refusal answers its number and its node, and nothing lent is changed; an acceptance has
  * number and node 0. What each answers is stated and proved: docs/STATEMENTS.md.
  *
+ * A table is of version 1 or 2, a record of version 1. A version 2 table may also ask whether a signal has risen or fallen since the sample before (operators 5 and
+ * 6); the sample before the first is all zero. So a letter is a pair of samples, made of all the samples that are lent, whatever the start.
+ *
  * A pointer comes with how many bytes or words it lends. It must not be null, even where that number is 0, and what a function writes (`out`, `workspace`) must not
  * overlap what it reads. No function keeps a pointer, allocates or blocks; calls from several threads are independent.
  */
@@ -65,20 +68,21 @@ typedef struct {
     bool top;
 } xistomar_ends;
 
-/* Checks a table: refusals 1 to 9. */
+/* Checks a table of version 1 or 2: refusals 1 to 9. */
 xistomar_verdict xistomar_check(const uint8_t *table, size_t table_bytes);
 
 /* Reads a record: its samples go to the first words of `out`, and later words stay. Refusals 1, 2, 3, 10, 5, 15. */
 xistomar_reading xistomar_read(const uint8_t *record, size_t record_bytes, uint64_t *out, size_t out_words);
 
-/* Rewrites the clocks of a table away: the new table goes to the first bytes of `out`, and later bytes stay. Refusals 1 to 9, 13, 15. */
+/* Rewrites the clocks of a table away: the new table, of the same version, goes to the first bytes of `out`, and later bytes stay. Refusals 1 to 9, 13, 15. */
 xistomar_rewriting xistomar_rewrite(const uint8_t *table, size_t table_bytes, uint8_t *out, size_t out_bytes);
 
 /* Judges the property at the table's root on the samples, and leaves the rows in the workspace. Refusals 1 to 9, 12, 13, 10, 11. */
 xistomar_judgement xistomar_judge(const uint8_t *table, size_t table_bytes, const uint64_t *samples, size_t sample_count, uint64_t *workspace,
                                   size_t workspace_words);
 
-/* The match ends, from a start, of the sequence at the table's root; leaves the rows in the workspace. Refusals 1 to 9, 12, 13, 10, 14, 11. */
+/* The match ends, from a start, of the sequence at the table's root; in a version 2 table the sample before the start still counts. Leaves the rows in the workspace.
+ * Refusals 1 to 9, 12, 13, 10, 14, 11. */
 xistomar_ends xistomar_match_ends(const uint8_t *table, size_t table_bytes, const uint64_t *samples, size_t sample_count, size_t start,
                                   uint64_t *workspace, size_t workspace_words);
 

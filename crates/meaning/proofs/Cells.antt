@@ -15,3 +15,10 @@ module _ {S : Type 0} where
   alive top = true
   alive bot = false
   alive end = false
+
+-- what stands at a position, with other samples
+abbrev pub mapCell : {U S : Type 0} → (U → S) → Cell U → Cell S
+mapCell g (real u) = real (g u)
+mapCell g top = top
+mapCell g bot = bot
+mapCell g end = end

@@ -1,16 +1,29 @@
--- The level and acceptance as computed tests. Assumes nothing.
+-- The level and acceptance as computed tests; the level goes by the answers alone. Assumes nothing.
 use mathlib.Core.Bool.{Bool, true, false, _&&_}
+use mathlib.Core.Logic.{_↔_, Iff·symm}
 use mathlib.Core.List.{List}
-use Prim.Native.Nat.{ℕ, zero-le}
+use Prim.Native.Nat.{ℕ, zero, zero-le}
 use Rattle.meaning.specs.Syntax.{Prop, strong, weak, neg, either, both, implies, next, until, under, Seq, Clock, free, on}
-use Rattle.meaning.specs.Words.{top, word, none, tops, bots}
+use Rattle.meaning.specs.Words.{top, word, Tail, none, tops, bots}
 use Rattle.meaning.specs.Levels.{levelOf}
-use Rattle.meaning.specs.Meaning.{satisfies, value, counts, ticks, Topped, Accepted, Neutral, Weakly, Strongly, Level, level3, level2, level1, level0}
+use Rattle.meaning.specs.Meaning.{satisfies, value, counts, ticks, Sat, Topped, Accepted, Neutral, Weakly, Strongly, Level, level3, level2, level1, level0}
 use Rattle.telling.specs.Tells.{Tells, some, every}
 use Rattle.telling.proofs.Telling.{is-and}
 use Rattle.meaning.proofs.Eval.{topB, matchB, plusB, is-top}
 use Rattle.meaning.proofs.Sequences.{strongB, weakB, inB}
 use Rattle.meaning.proofs.Answers.{ansB, is-ans, secondB}
+
+level-to : {A B S U : Type 0} (reads : A → S → Bool) (reads′ : B → U → Bool) {P : Prop A} {Q : Prop B} (xs : List S) (ys : List U)
+    → ((t : Tail) → Sat reads free P (word xs t) zero ↔ Sat reads′ free Q (word ys t) zero) → {m : ℕ} → Level reads P xs m → Level reads′ Q ys m
+level-to reads reads′ xs ys h (level3 s) = level3 (h bots .0 s)
+level-to reads reads′ xs ys h (level2 s n) = level2 (h none .0 s) (λ t. n (h bots .1 t))
+level-to reads reads′ xs ys h (level1 s n) = level1 (h tops .0 s) (λ t. n (h none .1 t))
+level-to reads reads′ xs ys h (level0 n) = level0 (λ t. n (h tops .1 t))
+
+-- properties with the same answers, each of its own record, have the same level of it
+pub same-level : {A B S U : Type 0} (reads : A → S → Bool) (reads′ : B → U → Bool) {P : Prop A} {Q : Prop B} (xs : List S) (ys : List U)
+    → ((t : Tail) → Sat reads free P (word xs t) zero ↔ Sat reads′ free Q (word ys t) zero) → {m : ℕ} → Level reads P xs m ↔ Level reads′ Q ys m
+same-level reads reads′ xs ys h = (level-to reads reads′ xs ys h, level-to reads′ reads ys xs (λ t. Iff·symm (h t)))
 
 module _ {A S : Type 0} (reads : A → S → Bool) where
   -- (the line lets whoever unfolds `levelB` compute it)

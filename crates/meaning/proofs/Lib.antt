@@ -1,6 +1,7 @@
 -- The theorems, in a reader's order, and then what they are proved from.
 pub mod Theorems
 pub mod Examples
+pub mod Samples
 pub mod Cells
 pub mod Order
 pub mod Words
@@ -15,3 +16,5 @@ pub mod Answers
 pub mod Leveling
 pub mod Rewriting
 pub mod Entering
+pub mod Pairing
+pub mod Renaming

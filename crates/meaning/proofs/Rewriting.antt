@@ -11,12 +11,13 @@ use lib.ListN.{length}
 use Rattle.meaning.specs.Syntax.{Bexp, nott, andd, Seq, one, cat, fuse, alt, empty, plus, clocked, Prop, strong, weak, neg, either, both, implies, next, until, under, Clock, free, on}
 use Rattle.meaning.specs.Words.{Cell, real, top, bot, end, Word, inside, isBot, flip, bar, cut, NoBot, word, Tail, none, tops, bots, other}
 use Rattle.meaning.proofs.Cells.{isTop}
-use Rattle.meaning.specs.Meaning.{Plus, last, more, value, satisfies, Match, counts, ticks, Second, Strong, Sat, Topped, Accepted, Level, level3, level2, level1, level0}
+use Rattle.meaning.specs.Meaning.{Plus, last, more, value, satisfies, Match, counts, ticks, Second, Strong, Sat, Topped, Accepted, Level}
 use Rattle.meaning.specs.Rewriting.{tickS, rewS, now, seek, rewP}
 use Rattle.telling.proofs.Telling.{side, is-test, is-true, is-false, is-and, is-not, test}
 use Rattle.meaning.proofs.Words.{bar-word, word-out, word-inside, word-not-bot, botted, no-bot}
 use Rattle.meaning.proofs.Tails.{bot-inside}
 use Rattle.meaning.proofs.Answers.{out-ticks, decided}
+use Rattle.meaning.proofs.Leveling.{same-level}
 use Rattle.telling.specs.Tells.{Tells}
 
 plus-map : {M N : ℕ → ℕ → Type 0} → ((a b : ℕ) → M a b → N a b) → {i j : ℕ} → Plus M i j → Plus N i j
@@ -398,14 +399,5 @@ module _ {A S : Type 0} (reads : A → S → Bool) where
   accepted-rew (on c) (until P Q) a = ((now-topped c, accepted-rew (on c) P (a .0)), (now-topped c, accepted-rew (on c) Q (a .1)))
   accepted-rew κ (under c P) a = accepted-rew (on c) P a
 
-  -- two properties with the same answers of a record have its level in common
-  same-level : {P Q : Prop A} (xs : List S) → ((t : Tail) → Sat reads free P (word xs t) zero ↔ Sat reads free Q (word xs t) zero) → {m : ℕ}
-      → Level reads P xs m → Level reads Q xs m
-  same-level xs h (level3 s) = level3 (h bots .0 s)
-  same-level xs h (level2 s n) = level2 (h none .0 s) (λ t. n (h bots .1 t))
-  same-level xs h (level1 s n) = level1 (h tops .0 s) (λ t. n (h none .1 t))
-  same-level xs h (level0 n) = level0 (λ t. n (h tops .1 t))
-
   pub level-rew : (P : Prop A) (xs : List S) (m : ℕ) → Level reads P xs m ↔ Level reads (rewP free P) xs m
-  level-rew P xs m =
-      (same-level xs (λ t. sat-rew free P xs t zero), same-level xs (λ t. (sat-rew free P xs t zero .1, sat-rew free P xs t zero .0)))
+  level-rew P xs m = same-level reads reads xs xs (λ t. sat-rew free P xs t zero)

@@ -2,11 +2,11 @@
 pub mod Syntax
 pub mod Words
 pub mod Meaning
--- What the base reads, answers and shows by them.
+-- What an atom reads: a signal of a sample; of a sample and the one before it, a signal, its rise or its fall. A tree of the first kind is one of the second.
 pub mod Signal
--- The letters and atoms of tables that read rising and falling signals, and older trees among those.
 pub mod Pairs
 pub mod Renaming
+-- What is answered and shown by them.
 pub mod Levels
 pub mod Rewriting
 pub mod Parts

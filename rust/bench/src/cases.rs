@@ -1,6 +1,6 @@
 //! The tables and records that are measured.
-use crate::nodes::Nodes;
-use crate::random::{self, Random};
+use crate::nodes::{rewritten_count, Nodes};
+use crate::random::{self, Kind, Random};
 
 /// The samples of the longest record.
 const LONGEST: usize = 63;
@@ -20,7 +20,7 @@ pub struct Case {
 impl Input {
     /// The rewritten count.
     pub fn m(&self) -> usize {
-        xistomar::raw::rewrite(&self.table, &mut [0; 486]).count
+        rewritten_count(&self.table)
     }
 }
 
@@ -37,14 +37,17 @@ pub fn all() -> Vec<Case> {
     vec![
         p1(),
         clocked_implication(),
-        random_case("random", false),
-        random_case("random-clocked", true),
+        random_case("random", Kind::Plain),
+        random_case("random-clocked", Kind::Clocked),
         nested_repeats(),
         then_chain(),
         fused_chain(),
         implies_chain(),
         until_chain(),
         clocked_nexttime(),
+        clocked_rise(),
+        random_case("random-risen", Kind::Pairs),
+        risen_and_fallen(),
     ]
 }
 
@@ -66,27 +69,36 @@ fn clocked_implication() -> Case {
     let a = t.signal(0);
     let b = t.signal(1);
     let c = t.signal(2);
+    implied_next(&mut t, c, [a, b], b);
+    case("clocked-implication", &t, over_and_over(&[7, 3, 6, 1]))
+}
+
+/// `@(c)(a ##1 b |-> nexttime strong(p))`, of booleans a, b and p.
+fn implied_next(t: &mut Nodes, c: u8, [a, b]: [u8; 2], p: u8) {
     let first = t.letter(a);
     let second = t.letter(b);
     let left = t.then(first, second);
-    let asked = t.letter(b);
+    let asked = t.letter(p);
     let held = t.strong(asked);
     let next = t.nexttime(held);
     let implied = t.implies(left, next);
     t.clocked(c, implied);
-    let samples = (0..LONGEST as u64).map(|i| [7, 3, 6, 1][i as usize % 4]);
-    case("clocked-implication", &t, samples.collect())
+}
+
+/// A full record of the same samples again and again.
+fn over_and_over(samples: &[u64]) -> Vec<u64> {
+    samples.iter().copied().cycle().take(LONGEST).collect()
 }
 
 /// The seeds that a random case is averaged over.
 const SEEDS: [u64; 5] = [11, 12, 13, 14, 15];
 
 /// Random tables of 100 to 120 rewritten nodes, on full records.
-fn random_case(name: &str, clocked: bool) -> Case {
+fn random_case(name: &str, kind: Kind) -> Case {
     let input = |seed| {
         let mut r = Random::new(seed);
         Input {
-            table: random::table(&mut r, 100, 120, clocked),
+            table: random::table(&mut r, 100, 120, kind),
             samples: random::samples(&mut r, LONGEST),
         }
     };
@@ -193,10 +205,35 @@ fn clocked_nexttime() -> Case {
     case("clocked-nexttime", &t, samples.collect())
 }
 
+/// `@(c)(rose a ##1 b |-> nexttime strong(fell a))`, an assertion as a lab writes it, on a full record: c ticks on every other sample, and a rises at a tick, is
+/// followed by b at the next and falls at the one after that, again and again.
+fn clocked_rise() -> Case {
+    let mut t = Nodes::default();
+    let rose = t.risen(0);
+    let b = t.signal(1);
+    let c = t.signal(2);
+    let fell = t.fallen(0);
+    implied_next(&mut t, c, [rose, b], fell);
+    case("clocked-rise", &t, over_and_over(&[5, 1, 7, 1, 4, 0, 4, 0]))
+}
+
+/// As many nodes of risen and fallen signals as there can be, where the rows of booleans weigh most.
+fn risen_and_fallen() -> Case {
+    let mut t = Nodes::default();
+    for s in 0..59 {
+        t.risen(s);
+        t.fallen(s);
+    }
+    let letter = t.letter(0);
+    t.strong(letter);
+    let mut r = Random::new(31);
+    case("risen-and-fallen", &t, random::samples(&mut r, LONGEST))
+}
+
 /// One mixed random table of about 60 nodes, on records of growing length.
 pub fn growing_n() -> Vec<Case> {
     let mut r = Random::new(21);
-    let table = random::table(&mut r, 58, 62, false);
+    let table = random::table(&mut r, 58, 62, Kind::Plain);
     let samples = random::samples(&mut r, LONGEST);
     let input = |n: usize| Case {
         name: format!("n-{n}"),
@@ -214,7 +251,7 @@ pub fn growing_m() -> Vec<Case> {
         let input = |seed| {
             let mut r = Random::new(seed);
             Input {
-                table: random::table(&mut r, m, m, false),
+                table: random::table(&mut r, m, m, Kind::Plain),
                 samples: random::samples(&mut r, LONGEST),
             }
         };

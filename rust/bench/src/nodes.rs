@@ -1,5 +1,9 @@
 //! Tables made node by node. Each function adds a node and answers its index.
 
+/// Operators that version 1 does not know.
+const RISEN: u8 = 5;
+const FALLEN: u8 = 6;
+
 #[derive(Default)]
 pub struct Nodes(Vec<[u8; 4]>);
 
@@ -23,6 +27,14 @@ impl Nodes {
 
     pub fn boolean_or(&mut self, a: u8, b: u8) -> u8 {
         self.add(4, a, b)
+    }
+
+    pub fn risen(&mut self, s: u8) -> u8 {
+        self.add(RISEN, s, 0)
+    }
+
+    pub fn fallen(&mut self, s: u8) -> u8 {
+        self.add(FALLEN, s, 0)
     }
 
     pub fn letter(&mut self, b: u8) -> u8 {
@@ -93,11 +105,22 @@ impl Nodes {
         self.0.len()
     }
 
+    /// The first version that knows all nodes.
+    fn version(&self) -> u8 {
+        let later = |node: &[u8; 4]| matches!(node[0], RISEN | FALLEN);
+        1 + u8::from(self.0.iter().any(later))
+    }
+
     /// The table's bytes; the last node is the root.
     pub fn table(&self) -> Vec<u8> {
         let count = u8::try_from(self.0.len()).expect("at most 120 nodes");
-        let mut bytes = vec![b'S', b'V', b'T', 1, 0, count];
+        let mut bytes = vec![b'S', b'V', b'T', self.version(), 0, count];
         bytes.extend(self.0.concat());
         bytes
     }
+}
+
+/// How many nodes the rewritten table has; 0 for a table that is refused.
+pub fn rewritten_count(table: &[u8]) -> usize {
+    rows::rewrite(table, &mut [0; 486]).count
 }

@@ -1,5 +1,5 @@
 //! Random tables and samples, from fixed seeds.
-use crate::nodes::Nodes;
+use crate::nodes::{rewritten_count, Nodes};
 
 /// A generator of numbers (splitmix64): the same seed gives the same numbers.
 pub struct Random(u64);
@@ -26,26 +26,41 @@ impl Random {
 /// How many booleans a random table begins with.
 const BOOLEANS: u8 = 8;
 
-/// A table whose rewritten count is from `least` to `most`, with a clock round it or with none.
-pub fn table(r: &mut Random, least: usize, most: usize, clocked: bool) -> Vec<u8> {
+/// What random tables are made of.
+#[derive(Clone, Copy, PartialEq, Eq)]
+pub enum Kind {
+    /// Signals, with no clock.
+    Plain,
+    /// Signals, with a clock round all and others inside.
+    Clocked,
+    /// The same tables as `Plain`, but for a signal that has risen and one that has fallen in the place of two signals.
+    Pairs,
+}
+
+/// A table whose rewritten count is from `least` to `most`.
+pub fn table(r: &mut Random, least: usize, most: usize, kind: Kind) -> Vec<u8> {
     loop {
         // A letter under a clock becomes nine nodes, so a clocked table begins with fewer.
-        let room = if clocked { most / 4 } else { most };
+        let room = if kind == Kind::Clocked {
+            most / 4
+        } else {
+            most
+        };
         let size = r.between((room / 2).max(10), room);
-        let table = attempt(r, size, clocked);
-        let m = xistomar::raw::rewrite(&table, &mut [0; 486]).count;
-        if (least..=most).contains(&m) {
+        let table = attempt(r, size, kind);
+        if (least..=most).contains(&rewritten_count(&table)) {
             return table;
         }
     }
 }
 
 /// A table of so many nodes, which may be refused or too long when rewritten.
-fn attempt(r: &mut Random, size: usize, clocked: bool) -> Vec<u8> {
+fn attempt(r: &mut Random, size: usize, kind: Kind) -> Vec<u8> {
     let mut nodes = Nodes::default();
+    signals(&mut nodes, kind);
     booleans(r, &mut nodes);
     let left = size - nodes.len();
-    if clocked {
+    if kind == Kind::Clocked {
         let p = property(r, &mut nodes, left.max(3) - 1, true);
         nodes.clocked(0, p);
     } else {
@@ -54,11 +69,21 @@ fn attempt(r: &mut Random, size: usize, clocked: bool) -> Vec<u8> {
     nodes.table()
 }
 
-/// Signals 0 to 3, and what is made of them.
-fn booleans(r: &mut Random, nodes: &mut Nodes) {
-    for s in 0..4 {
-        nodes.signal(s);
+/// Signals 0 to 3.
+fn signals(nodes: &mut Nodes, kind: Kind) {
+    nodes.signal(0);
+    nodes.signal(1);
+    if kind == Kind::Pairs {
+        nodes.risen(2);
+        nodes.fallen(3);
+    } else {
+        nodes.signal(2);
+        nodes.signal(3);
     }
+}
+
+/// What is made of the signals.
+fn booleans(r: &mut Random, nodes: &mut Nodes) {
     for made in 4..BOOLEANS {
         let a = r.between(0, usize::from(made) - 1) as u8;
         let b = r.between(0, usize::from(made) - 1) as u8;

@@ -11,6 +11,8 @@ pub fn word(below: &[Row], samples: &[u64], op: u8, x: u8, y: u8) -> u64 {
         SIGNAL => signal(samples, x),
         BOOLEAN_NOT => all & !at(x),
         BOOLEAN_AND => at(x) & at(y),
+        RISEN => risen(signal(samples, x)),
+        FALLEN => all & fallen(signal(samples, x)),
         _ => at(x) | at(y),
     }
 }
@@ -19,4 +21,19 @@ pub fn word(below: &[Row], samples: &[u64], op: u8, x: u8, y: u8) -> u64 {
 fn signal(samples: &[u64], s: u8) -> u64 {
     let bit = |(k, sample): (usize, &u64)| (sample >> s & 1) << k;
     samples.iter().enumerate().map(bit).fold(0, |a, b| a | b)
+}
+
+/// The samples in which the signal has risen since the sample before.
+fn risen(signal: u64) -> u64 {
+    signal & !before(signal)
+}
+
+/// The samples in which the signal has fallen, and the place after the last sample where that has it.
+fn fallen(signal: u64) -> u64 {
+    !signal & before(signal)
+}
+
+/// The places that have the signal in the sample before. The first has none, since the sample before it is all zero.
+fn before(signal: u64) -> u64 {
+    signal << 1
 }

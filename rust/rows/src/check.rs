@@ -2,6 +2,7 @@
 use crate::answers::Verdict;
 use crate::operators::*;
 use crate::tops::{flags, hollow};
+use std::ops::RangeInclusive;
 
 /// The bytes before the nodes.
 pub const HEADING: usize = 6;
@@ -9,30 +10,40 @@ pub const HEADING: usize = 6;
 /// The nodes of a table, at most.
 pub const MOST: usize = 120;
 
+/// The versions of tables.
+const VERSIONS: RangeInclusive<u16> = 1..=2;
+
+/// A table read off its bytes.
+pub struct Table<'a> {
+    pub version: u8,
+    pub nodes: &'a [[u8; 4]],
+}
+
 /// Refusals 1 to 9; number and node 0 where none applies.
 pub fn check(table: &[u8]) -> Verdict {
-    match nodes_of(table).and_then(check_nodes) {
-        Ok(()) => Verdict::default(),
+    match checked(table) {
+        Ok(_) => Verdict::default(),
         Err(refusal) => refusal,
     }
 }
 
-/// The nodes of a table that gets none of 1 to 9.
-pub fn checked(table: &[u8]) -> Result<&[[u8; 4]], Verdict> {
-    let nodes = nodes_of(table)?;
-    check_nodes(nodes)?;
-    Ok(nodes)
+/// A table that gets none of 1 to 9.
+pub fn checked(table: &[u8]) -> Result<Table<'_>, Verdict> {
+    let table = parts(table)?;
+    check_nodes(&table)?;
+    Ok(table)
 }
 
 /// Refusals 1 to 5.
-fn nodes_of(table: &[u8]) -> Result<&[[u8; 4]], Verdict> {
+fn parts(table: &[u8]) -> Result<Table<'_>, Verdict> {
     let Some((heading, rest)) = table.split_first_chunk::<HEADING>() else {
         return Err(Verdict::refusal(1));
     };
     if !heading.starts_with(b"SVT") {
         return Err(Verdict::refusal(2));
     }
-    if heading[3..5] != [1, 0] {
+    let version = u16::from_le_bytes([heading[3], heading[4]]);
+    if !VERSIONS.contains(&version) {
         return Err(Verdict::refusal(3));
     }
     let count = usize::from(heading[5]);
@@ -42,7 +53,10 @@ fn nodes_of(table: &[u8]) -> Result<&[[u8; 4]], Verdict> {
     if rest.len() != 4 * count {
         return Err(Verdict::refusal(5));
     }
-    Ok(rest.as_chunks().0)
+    Ok(Table {
+        version: version as u8,
+        nodes: rest.as_chunks().0,
+    })
 }
 
 /// What the pass over the nodes has found so far. A byte indexes 256 places, so no index has a bound to check.
@@ -53,7 +67,8 @@ struct Found {
 }
 
 /// Refusals 6 to 9: one pass that asks 6 and gathers what 7 and 9 need, since 6 is asked of all nodes first.
-fn check_nodes(nodes: &[[u8; 4]]) -> Result<(), Verdict> {
+fn check_nodes(table: &Table) -> Result<(), Verdict> {
+    let nodes = table.nodes;
     let mut found = Found {
         sorts: [NONE; 256],
         places: [0; 256],
@@ -62,7 +77,8 @@ fn check_nodes(nodes: &[[u8; 4]]) -> Result<(), Verdict> {
     let mut first_hollow = None;
     for (k, &[op, x, y, fourth]) in nodes.iter().enumerate() {
         let operator = OPERATORS[usize::from(op)];
-        if !fits(&found.sorts, operator, x, y) || fourth != 0 {
+        let known = operator.is_known(table.version);
+        if !known || !fits(&found.sorts, operator, x, y) || fourth != 0 {
             return Err(Verdict::at(6, k));
         }
         let (x, y) = (usize::from(x), usize::from(y));
@@ -83,13 +99,13 @@ fn check_nodes(nodes: &[[u8; 4]]) -> Result<(), Verdict> {
     first_hollow.map_or(Ok(()), |k| Err(Verdict::at(9, k)))
 }
 
-/// Whether operator and operands are in order. A node that is not below has no sort yet, so its sort is not the one asked for.
+/// Whether the operands are in order. A node that is not below has no sort yet, so its sort is not the one asked for.
 fn fits(sorts: &[u8; 256], operator: Operator, x: u8, y: u8) -> bool {
     let serves = |sort: u8, limit: u8, v: u8| match sort {
         NONE => v < limit,
         _ => sorts[usize::from(v)] == sort,
     };
-    operator.own != NONE && serves(operator.x, operator.limit, x) && serves(operator.y, 1, y)
+    serves(operator.x, operator.limit, x) && serves(operator.y, 1, y)
 }
 
 /// The lowest sequence or property, not the root, in other than one operand place.

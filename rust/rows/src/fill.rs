@@ -13,7 +13,7 @@ pub fn fill(nodes: &[[u8; 4]], samples: &[u64], rows: &mut [Row]) -> bool {
         let (below, own) = rows.split_at_mut(k);
         let own = &mut own[0];
         match op {
-            CONSTANT..=BOOLEAN_OR => put(own, &[booleans::word(below, samples, op, x, y)]),
+            CONSTANT..=FALLEN => put(own, &[booleans::word(below, samples, op, x, y)]),
             LETTER..=REPEAT => sequences::put(own, below, n, op, x, y),
             IMPLIES => {
                 let p = asked(&below[usize::from(y)]);

@@ -19,12 +19,12 @@ struct Call {
 
 /// Refusals 1 to 9, 12, 13, 10, 14 and 11; with none, the rewritten table in `new`, and its count.
 fn settle(table: &[u8], call: Call, new: &mut [u8; ROOM]) -> Result<usize, Verdict> {
-    let nodes = checked(table)?;
-    let root = nodes[nodes.len() - 1][0];
+    let table = checked(table)?;
+    let root = table.nodes[table.nodes.len() - 1][0];
     if OPERATORS[usize::from(root)].own == call.wrong {
         return Err(Verdict::refusal(12));
     }
-    let plan = plan(nodes);
+    let plan = plan(table.nodes);
     let refusals = [
         (plan.all > MOST, 13),
         (call.samples > LONGEST, 10),
@@ -34,7 +34,7 @@ fn settle(table: &[u8], call: Call, new: &mut [u8; ROOM]) -> Result<usize, Verdi
     if let Some(&(_, number)) = refusals.iter().find(|(applies, _)| *applies) {
         return Err(Verdict::refusal(number));
     }
-    write(nodes, &plan, &mut new[..HEADING + 4 * plan.all]);
+    write(&table, &plan, &mut new[..HEADING + 4 * plan.all]);
     Ok(plan.all)
 }
 

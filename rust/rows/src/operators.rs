@@ -5,6 +5,8 @@ pub const SIGNAL: u8 = 1;
 pub const BOOLEAN_NOT: u8 = 2;
 pub const BOOLEAN_AND: u8 = 3;
 pub const BOOLEAN_OR: u8 = 4;
+pub const RISEN: u8 = 5;
+pub const FALLEN: u8 = 6;
 pub const LETTER: u8 = 16;
 pub const THEN: u8 = 17;
 pub const FUSED: u8 = 18;
@@ -28,10 +30,21 @@ pub const BOOLEAN: u8 = 1;
 pub const SEQUENCE: u8 = 2;
 pub const PROPERTY: u8 = 3;
 
-/// The node's own sort, the sorts of x and y, the number that x is below where it is no operand, and the length of
-/// the node's block under a clock, 0 for a clock node.
+/// The versions in which an operator is known, from the first to the last: bit v for version v.
+const fn versions(first: u8, last: u8) -> u8 {
+    (2 << last) - (1 << first)
+}
+
+/// The versions of the base's operators, of those that ask for the sample before too, and of an unknown one.
+const BASE: u8 = versions(1, 4);
+const PAIRS: u8 = versions(2, 4);
+const NEVER: u8 = 0;
+
+/// The versions that know the operator, the node's own sort, the sorts of x and y, the number that x is below where it is no operand, and the length of
+/// the node's block under a clock, 0 for a clock node. No version changes anything but whether the operator is known.
 #[derive(Clone, Copy)]
 pub struct Operator {
+    versions: u8,
     pub own: u8,
     pub x: u8,
     pub y: u8,
@@ -39,11 +52,19 @@ pub struct Operator {
     pub block: u8,
 }
 
+impl Operator {
+    /// Whether a table of the version may have the operator.
+    pub fn is_known(self, version: u8) -> bool {
+        self.versions >> version & 1 == 1
+    }
+}
+
 /// One entry for every byte, so that no lookup has a bound to check.
 pub static OPERATORS: [Operator; 256] = all();
 
-const fn operator(own: u8, x: u8, y: u8, block: u8) -> Operator {
+const fn operator(versions: u8, own: u8, x: u8, y: u8, block: u8) -> Operator {
     Operator {
+        versions,
         own,
         x,
         y,
@@ -52,35 +73,38 @@ const fn operator(own: u8, x: u8, y: u8, block: u8) -> Operator {
     }
 }
 
-const fn plain(limit: u8) -> Operator {
+/// A boolean with no operands, whose x is below a limit.
+const fn plain(versions: u8, limit: u8) -> Operator {
     Operator {
         limit,
-        ..operator(BOOLEAN, NONE, NONE, 1)
+        ..operator(versions, BOOLEAN, NONE, NONE, 1)
     }
 }
 
 const fn all() -> [Operator; 256] {
-    let mut rows = [operator(NONE, NONE, NONE, 0); 256];
-    rows[CONSTANT as usize] = plain(2);
-    rows[SIGNAL as usize] = plain(64);
-    rows[BOOLEAN_NOT as usize] = operator(BOOLEAN, BOOLEAN, NONE, 1);
-    rows[BOOLEAN_AND as usize] = operator(BOOLEAN, BOOLEAN, BOOLEAN, 1);
-    rows[BOOLEAN_OR as usize] = operator(BOOLEAN, BOOLEAN, BOOLEAN, 1);
-    rows[LETTER as usize] = operator(SEQUENCE, BOOLEAN, NONE, 9);
-    rows[THEN as usize] = operator(SEQUENCE, SEQUENCE, SEQUENCE, 1);
-    rows[FUSED as usize] = operator(SEQUENCE, SEQUENCE, SEQUENCE, 1);
-    rows[EITHER as usize] = operator(SEQUENCE, SEQUENCE, SEQUENCE, 1);
-    rows[EMPTY as usize] = operator(SEQUENCE, SEQUENCE, NONE, 1);
-    rows[REPEAT as usize] = operator(SEQUENCE, SEQUENCE, NONE, 1);
-    rows[SEQUENCE_CLOCK as usize] = operator(SEQUENCE, BOOLEAN, SEQUENCE, 0);
-    rows[STRONG as usize] = operator(PROPERTY, SEQUENCE, NONE, 1);
-    rows[WEAK as usize] = operator(PROPERTY, SEQUENCE, NONE, 1);
-    rows[NOT as usize] = operator(PROPERTY, PROPERTY, NONE, 1);
-    rows[OR as usize] = operator(PROPERTY, PROPERTY, PROPERTY, 1);
-    rows[AND as usize] = operator(PROPERTY, PROPERTY, PROPERTY, 1);
-    rows[IMPLIES as usize] = operator(PROPERTY, SEQUENCE, PROPERTY, 1);
-    rows[NEXTTIME as usize] = operator(PROPERTY, PROPERTY, NONE, 14);
-    rows[UNTIL as usize] = operator(PROPERTY, PROPERTY, PROPERTY, 9);
-    rows[PROPERTY_CLOCK as usize] = operator(PROPERTY, BOOLEAN, PROPERTY, 0);
+    let mut rows = [operator(NEVER, NONE, NONE, NONE, 0); 256];
+    rows[CONSTANT as usize] = plain(BASE, 2);
+    rows[SIGNAL as usize] = plain(BASE, 64);
+    rows[BOOLEAN_NOT as usize] = operator(BASE, BOOLEAN, BOOLEAN, NONE, 1);
+    rows[BOOLEAN_AND as usize] = operator(BASE, BOOLEAN, BOOLEAN, BOOLEAN, 1);
+    rows[BOOLEAN_OR as usize] = operator(BASE, BOOLEAN, BOOLEAN, BOOLEAN, 1);
+    rows[RISEN as usize] = plain(PAIRS, 64);
+    rows[FALLEN as usize] = plain(PAIRS, 64);
+    rows[LETTER as usize] = operator(BASE, SEQUENCE, BOOLEAN, NONE, 9);
+    rows[THEN as usize] = operator(BASE, SEQUENCE, SEQUENCE, SEQUENCE, 1);
+    rows[FUSED as usize] = operator(BASE, SEQUENCE, SEQUENCE, SEQUENCE, 1);
+    rows[EITHER as usize] = operator(BASE, SEQUENCE, SEQUENCE, SEQUENCE, 1);
+    rows[EMPTY as usize] = operator(BASE, SEQUENCE, SEQUENCE, NONE, 1);
+    rows[REPEAT as usize] = operator(BASE, SEQUENCE, SEQUENCE, NONE, 1);
+    rows[SEQUENCE_CLOCK as usize] = operator(BASE, SEQUENCE, BOOLEAN, SEQUENCE, 0);
+    rows[STRONG as usize] = operator(BASE, PROPERTY, SEQUENCE, NONE, 1);
+    rows[WEAK as usize] = operator(BASE, PROPERTY, SEQUENCE, NONE, 1);
+    rows[NOT as usize] = operator(BASE, PROPERTY, PROPERTY, NONE, 1);
+    rows[OR as usize] = operator(BASE, PROPERTY, PROPERTY, PROPERTY, 1);
+    rows[AND as usize] = operator(BASE, PROPERTY, PROPERTY, PROPERTY, 1);
+    rows[IMPLIES as usize] = operator(BASE, PROPERTY, SEQUENCE, PROPERTY, 1);
+    rows[NEXTTIME as usize] = operator(BASE, PROPERTY, PROPERTY, NONE, 14);
+    rows[UNTIL as usize] = operator(BASE, PROPERTY, PROPERTY, PROPERTY, 9);
+    rows[PROPERTY_CLOCK as usize] = operator(BASE, PROPERTY, BOOLEAN, PROPERTY, 0);
     rows
 }

@@ -1,7 +1,7 @@
 //! Rewriting clocks away: a pass from the root down for clocks and counts, and two up, which number the nodes and write their blocks.
 use crate::answers::{Rewriting, Verdict};
 use crate::blocks;
-use crate::check::{checked, HEADING, MOST};
+use crate::check::{checked, Table, HEADING, MOST};
 use crate::operators::*;
 
 /// A clock as a byte: the number of its condition, or this one, which no node has.
@@ -26,15 +26,15 @@ pub fn rewrite(table: &[u8], out: &mut [u8]) -> Rewriting {
 }
 
 fn rewritten(table: &[u8], out: &mut [u8]) -> Result<usize, Verdict> {
-    let nodes = checked(table)?;
-    let plan = plan(nodes);
+    let table = checked(table)?;
+    let plan = plan(table.nodes);
     if plan.all > MOST {
         return Err(Verdict::refusal(13));
     }
     let Some(out) = out.get_mut(..HEADING + 4 * plan.all) else {
         return Err(Verdict::refusal(15));
     };
-    write(nodes, &plan, out);
+    write(&table, &plan, out);
     Ok(plan.all)
 }
 
@@ -70,14 +70,15 @@ fn length(clock: u8, block: u8) -> usize {
     })
 }
 
-/// Writes the whole new table, which `out` has just the room for: the booleans first, since a clock's condition may stand after a node under it.
-pub fn write(nodes: &[[u8; 4]], plan: &Plan, out: &mut [u8]) {
+/// Writes the whole new table, of the same version, which `out` has just the room for: the booleans first, since a clock's condition may stand after a
+/// node under it.
+pub fn write(table: &Table, plan: &Plan, out: &mut [u8]) {
     let (heading, out) = out.split_at_mut(HEADING);
-    heading.copy_from_slice(&[b'S', b'V', b'T', 1, 0, plan.all as u8]);
+    heading.copy_from_slice(&[b'S', b'V', b'T', table.version, 0, plan.all as u8]);
     let (booleans, others) = out.as_chunks_mut().0.split_at_mut(plan.booleans);
     let mut numbers = [0; 256];
-    write_booleans(nodes, &mut numbers, booleans);
-    write_others(nodes, plan, &mut numbers, others);
+    write_booleans(table.nodes, &mut numbers, booleans);
+    write_others(table.nodes, plan, &mut numbers, others);
 }
 
 /// The node with the new numbers of its operands.

@@ -1,11 +1,13 @@
 //! The baseline beside the proved library: the same answers, bytes and words, on random tables, damaged tables and records.
+mod damage;
 mod random;
 
-use random::{damage, samples, table, Random, Root};
+use damage::damage;
+use random::{samples, table, Random};
 use std::ops::Range;
 use xistomar::raw;
 
-/// A failure prints the seed, and `case(seed)` alone repeats it.
+/// A failure prints the seed, and `case(version, seed)` alone repeats it.
 const SEEDS: Range<u64> = 0..12000;
 
 /// More words than any table owns: the later ones have to stay.
@@ -70,17 +72,11 @@ fn compare_ends(seed: u64, table: &[u8], samples: &[u64], start: usize, words: u
     our.verdict.number
 }
 
-/// One random case. Now and then the room, the words, the samples or the start are just about at their limit. Answers the number of
+/// One random case of a table's version. Now and then the room, the words, the samples or the start are just about at their limit. Answers the number of
 /// each verdict, and the level.
-fn case(seed: u64) -> (u8, u8, u8) {
+fn case(version: u8, seed: u64) -> (u8, u8, u8) {
     let mut r = Random(seed);
-    let about = [3, 8, 20, 40, 70, 100][r.below(6)];
-    let root = match r.below(20) {
-        0 => Root::Boolean,
-        1..=4 => Root::Sequence,
-        _ => Root::Property,
-    };
-    let mut table = table(&mut r, about, root);
+    let mut table = table(&mut r, version);
     if r.below(3) == 0 {
         damage(&mut r, &mut table);
     }
@@ -97,12 +93,12 @@ fn case(seed: u64) -> (u8, u8, u8) {
     (judged, ended, level)
 }
 
-#[test]
-fn same_as_the_library() {
+/// Runs every seed on tables of the version.
+fn same_as_the_library(version: u8) {
     let mut numbers = [0; 16];
     let mut levels = [0; 4];
     for seed in SEEDS {
-        let (judged, ended, level) = case(seed);
+        let (judged, ended, level) = case(version, seed);
         numbers[usize::from(judged)] += 1;
         numbers[usize::from(ended)] += 1;
         if judged == 0 {
@@ -113,4 +109,14 @@ fn same_as_the_library() {
     println!("numbers {numbers:?}, levels {levels:?}");
     assert!(numbers[..15].iter().all(|&count| count > 0));
     assert!(levels.iter().all(|&count| count > 0));
+}
+
+#[test]
+fn same_on_tables_of_version_1() {
+    same_as_the_library(1);
+}
+
+#[test]
+fn same_on_tables_of_version_2() {
+    same_as_the_library(2);
 }

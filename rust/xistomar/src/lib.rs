@@ -5,6 +5,11 @@
 //! the assertion holds on the samples. Bad input is refused with a [`Refusal`], and then nothing
 //! lent is changed.
 //!
+//! A table is of version 1 or 2, a record of version 1. A version 2 table may also ask whether a
+//! signal has risen or fallen since the sample before (operators 5 and 6); the sample before the
+//! first is all zero. So a letter is a pair of samples, made of all the samples that are lent,
+//! whatever the start.
+//!
 //! Every answer comes from the proved static library, which takes any bytes, samples and sizes.
 //! This crate puts its answers into Rust's types and judges nothing by itself; [`raw`] has them as
 //! the library gives them.
@@ -63,7 +68,7 @@ pub const WORKSPACE: usize = 7800;
 /// The bytes that are enough for every rewritten table.
 pub const TABLE_BYTES: usize = 486;
 
-/// Checks a table: refusals 1 to 9.
+/// Checks a table of version 1 or 2: refusals 1 to 9.
 pub fn check(table: &[u8]) -> Result<(), Refusal> {
     refusal::settle(raw::check(table))
 }
@@ -79,8 +84,8 @@ pub fn read(record: &[u8], out: &mut [u64]) -> Result<usize, Refusal> {
 }
 
 /// Rewrites the clocks of a table away and answers how many nodes the new table has. A new table of
-/// m nodes is written to the first 6 + 4m bytes of `out`; later bytes stay. [`TABLE_BYTES`] bytes
-/// are enough for every table.
+/// m nodes, of the same version, is written to the first 6 + 4m bytes of `out`; later bytes stay.
+/// [`TABLE_BYTES`] bytes are enough for every table.
 ///
 /// Refusals 1 to 9, 13, 15, in this order.
 pub fn rewrite(table: &[u8], out: &mut [u8]) -> Result<usize, Refusal> {
@@ -103,8 +108,8 @@ pub fn judge(table: &[u8], samples: &[u64], workspace: &mut [u64]) -> Result<Jud
     })
 }
 
-/// The ends of the matches, from sample `start` on, of the sequence at the table's root. Leaves the
-/// rows in the workspace as [`judge`] does.
+/// The ends of the matches, from sample `start` on, of the sequence at the table's root. In a version
+/// 2 table the sample before `start` still counts. Leaves the rows in the workspace as [`judge`] does.
 ///
 /// Refusals 1 to 9, 12, 13, 10, 14, 11, in this order.
 pub fn match_ends(

@@ -26,7 +26,7 @@ impl Refusal {
         match self.number {
             1 => "fewer than 6 bytes",
             2 => "wrong mark",
-            3 => "version not 1",
+            3 => "version of a table neither 1 nor 2, of a record not 1",
             4 => "count 0 or over 120",
             5 => "length disagrees with the count",
             6 => {

@@ -1,22 +1,17 @@
 //! The examples of the page, each refusal once, and what each call leaves in what it is lent.
-use xistomar::{Judge, Level, Refusal};
+mod files;
 
-/// A table of these nodes: operator, x, y.
+use files::{level, refused};
+use xistomar::{Judge, Level};
+
+/// A table of version 1 with these nodes: operator, x, y.
 fn table(nodes: &[[u8; 3]]) -> Vec<u8> {
-    let mut bytes = vec![b'S', b'V', b'T', 1, 0, nodes.len() as u8];
-    for [operator, x, y] in nodes {
-        bytes.extend([*operator, *x, *y, 0]);
-    }
-    bytes
+    files::table(1, nodes)
 }
 
 /// A record of these samples.
 fn record(samples: &[u64]) -> Vec<u8> {
-    let mut bytes = vec![b'S', b'V', b'W', 1, 0, samples.len() as u8];
-    for sample in samples {
-        bytes.extend(sample.to_le_bytes());
-    }
-    bytes
+    files::record(1, samples)
 }
 
 /// Signals a and b and a letter for each: nodes 0 to 3. More nodes follow.
@@ -54,16 +49,6 @@ fn clocked_letters(count: u8) -> Vec<u8> {
     let last = nodes.len() as u8 - 1;
     nodes.extend([[32, last, 0], [40, 0, last + 1]]);
     table(&nodes)
-}
-
-fn level(table: &[u8], samples: &[u64]) -> Level {
-    Judge::new().judge(table, samples).unwrap().level
-}
-
-/// The number and node of a refusal.
-fn refused<T: std::fmt::Debug>(answer: Result<T, Refusal>) -> (u8, usize) {
-    let refusal = answer.unwrap_err();
-    (refusal.number(), refusal.node())
 }
 
 #[test]
@@ -179,17 +164,34 @@ fn refusals_1_to_9_of_a_table() {
     assert_eq!(check(&[]), (1, 0));
     assert_eq!(check(&strong_a[..5]), (1, 0));
     assert_eq!(check(&with(2, b'W')), (2, 0));
-    assert_eq!(check(&with(3, 2)), (3, 0));
+    assert_eq!(check(&with(3, 0)), (3, 0));
+    assert_eq!(check(&with(3, 3)), (3, 0));
+    assert_eq!(check(&with(4, 1)), (3, 0));
     assert_eq!(check(&with(5, 0)), (4, 0));
     assert_eq!(check(&with(5, 121)), (4, 0));
     assert_eq!(check(&with(5, 2)), (5, 0));
     assert_eq!(check(&with(14, 99)), (6, 2));
+    assert_eq!(check(&with(6, 5)), (6, 0));
+    assert_eq!(check(&with(6, 6)), (6, 0));
     assert_eq!(
         check(&table(&[[1, 0, 0], [16, 0, 0], [16, 0, 0], [32, 2, 0]])),
         (7, 1)
     );
     assert_eq!(check(&table(&[[1, 0, 0], [1, 1, 0]])), (8, 0));
     assert_eq!(check(&over_a(&[[20, 1, 0], [32, 2, 0]])), (9, 3));
+}
+
+#[test]
+fn refusals_1_to_5_of_a_record() {
+    let read = |bytes: &[u8]| refused(xistomar::samples(bytes));
+    let whole = record(&[1]);
+    assert_eq!(read(&[]), (1, 0));
+    assert_eq!(read(&whole[..5]), (1, 0));
+    assert_eq!(read(&strong_a()), (2, 0));
+    for version in [0, 2, 257] {
+        assert_eq!(read(&files::record(version, &[1])), (3, 0));
+    }
+    assert_eq!(read(&whole[..13]), (5, 0));
 }
 
 #[test]

@@ -1,4 +1,4 @@
-//! Random tables, records and damage to bytes, from a seed.
+//! Random tables and records, from a seed.
 
 /// A generator of numbers (splitmix64): the same seed gives the same numbers.
 pub struct Random(pub u64);
@@ -21,7 +21,7 @@ impl Random {
         self.below(times) == 0
     }
 
-    fn pick(&mut self, from: &[u8]) -> u8 {
+    pub fn pick(&mut self, from: &[u8]) -> u8 {
         from[self.below(from.len())]
     }
 
@@ -55,6 +55,13 @@ impl Making {
             4 => self.node(4, r.pick(&self.booleans), r.pick(&self.booleans)),
             _ => self.node(1, r.below(64) as u8, 0),
         };
+        self.booleans.push(made);
+    }
+
+    /// A signal that has risen or fallen.
+    fn add_edge(&mut self, r: &mut Random) {
+        let signals = [4, 64][r.below(2)];
+        let made = self.node(r.pick(&[5, 6]), r.below(signals) as u8, 0);
         self.booleans.push(made);
     }
 
@@ -133,18 +140,25 @@ impl Making {
 
 /// What stands at a table's root.
 #[derive(Clone, Copy, PartialEq, Eq)]
-pub enum Root {
+enum Root {
     Boolean,
     Sequence,
     Property,
 }
 
-/// A table of about so many nodes, mostly one that is accepted.
-pub fn table(r: &mut Random, about: usize, root: Root) -> Vec<u8> {
+/// A table of the version, mostly one that is accepted.
+pub fn table(r: &mut Random, version: u8) -> Vec<u8> {
+    let about = [3, 8, 20, 40, 70, 100][r.below(6)];
+    let root = match r.below(20) {
+        0 => Root::Boolean,
+        1..=4 => Root::Sequence,
+        _ => Root::Property,
+    };
     let mut making = Making::default();
     making.add_boolean(r);
     while making.nodes.len() < about {
         match r.below(6) {
+            _ if version == 2 && r.one_in(8) => making.add_edge(r),
             _ if root == Root::Boolean => making.add_boolean(r),
             0 => making.add_boolean(r),
             4.. if root == Root::Property => making.add_property(r),
@@ -156,7 +170,7 @@ pub fn table(r: &mut Random, about: usize, root: Root) -> Vec<u8> {
         Root::Sequence => making.join_sequences(r),
         Root::Property => making.join_all(r),
     }
-    let mut bytes = vec![b'S', b'V', b'T', 1, 0, making.nodes.len() as u8];
+    let mut bytes = vec![b'S', b'V', b'T', version, 0, making.nodes.len() as u8];
     bytes.extend(making.nodes.concat());
     bytes
 }
@@ -176,23 +190,4 @@ pub fn samples(r: &mut Random, n: usize) -> Vec<u64> {
             }
         })
         .collect()
-}
-
-/// Damages the bytes a little: one byte changed, the end cut off, or bytes added.
-pub fn damage(r: &mut Random, bytes: &mut Vec<u8>) {
-    match r.below(8) {
-        0 => bytes.truncate(r.below(bytes.len() + 1)),
-        1 => bytes.push(r.below(2) as u8),
-        _ => {
-            let at = r.below(bytes.len());
-            let operators = [
-                0, 1, 2, 3, 4, 16, 17, 18, 20, 21, 22, 32, 34, 37, 40, 41, 255,
-            ];
-            bytes[at] = match r.below(3) {
-                0 => r.pick(&operators),
-                1 => r.below(256) as u8,
-                _ => bytes[at] ^ (1 << r.below(8)),
-            };
-        }
-    }
 }
