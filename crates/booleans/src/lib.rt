@@ -30,7 +30,7 @@ fn signal_set(samples: &[u64], s: usize) -> PositionSet
     out
 }
 
-// The samples that have the signal s, and at which it has risen since the sample before: the one before the first is all zero.
+// The samples at which the signal s has risen since the sample before: they have it, and the one before does not. The one before the first is all zero.
 fn risen_set(samples: &[u64], s: usize) -> PositionSet
     requires { ⌜ (length (now samples) ≤ longest) × (s < 64) ⌝ }
     ensures { λ r. ⌜ Is (r .bits) (booleanBit [] (now (samples .entry)) (Risen s)) ⌝ }
@@ -39,13 +39,13 @@ fn risen_set(samples: &[u64], s: usize) -> PositionSet
     high.without(high.up())
 }
 
-// The samples that do not have the signal s, and at which it has fallen since the sample before.
+// The samples at which the signal s has fallen since the sample before: they do not have it, and the one before does.
 fn fallen_set(samples: &[u64], s: usize) -> PositionSet
     requires { ⌜ (length (now samples) ≤ longest) × (s < 64) ⌝ }
     ensures { λ r. ⌜ Is (r .bits) (booleanBit [] (now (samples .entry)) (Fallen s)) ⌝ }
 {
     let high = signal_set(samples, s);
-    high.up().without(high).common(all_samples(samples.len()))
+    all_samples(samples.len()).without(high).common(high.up())
 }
 
 // The samples that do not satisfy row a.

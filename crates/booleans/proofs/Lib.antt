@@ -1,0 +1,2 @@
+-- What a signal's word says of the sample before.
+mod Changes
