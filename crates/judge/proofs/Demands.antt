@@ -19,7 +19,8 @@ use Rattle.refusal.proofs.Given.{numbered, given-refused, answered-given, none-
 use Rattle.meaning.specs.Syntax.{Seq, Prop, free}
 use Rattle.meaning.specs.Words.{Tail, none, tops, bots, word}
 use Rattle.meaning.specs.Meaning.{Sat, Accepted, Level, Ends}
-use Rattle.meaning.specs.Signal.{signal}
+use Rattle.meaning.specs.Pairs.{Atom, Pair, reading, pairsAfter, pairs}
+use Rattle.meaning.proofs.Pairing.{length-pairs, pairs-append}
 use Rattle.meaning.specs.Rewriting.{rewS, rewP}
 use Rattle.meaning.proofs.Theorems as Meaning
 use Rattle.nodes.specs.Operators.{sequence, property}
@@ -98,15 +99,15 @@ module _ (s xs d : List ℕ) (r : Judgement) (d′ : List ℕ) (j : Judges s xs 
   passes : NotGiven (Check.refusals s ++ (wrongRoot s sequence ∷ tooMany s ∷ judgeRest s (length xs) (length d)))
   passes = judge-passes s (length xs) (length d) (r .verdict) z (j .answer)
 
-  root-accepted : (P : Prop ℕ) → RootP s P → Accepted signal free P
+  root-accepted : (P : Prop Atom) → RootP s P → Accepted reading free P
   root-accepted P a = accepted-root s accepted (table-checks s (wrongRoot s sequence) (judgeRest s (length xs) (length d)) passes) refl P a
 
   -- the level of the property at the root, clocks and all, and no other number
-  pub level-meant : (P : Prop ℕ) → RootP s P → Level signal P xs (r .level .number)
-  level-meant P a = let (Q, b, l) = j .accepted z .level in subst (λ (P : Prop ℕ). Level signal P xs (r .level .number)) (uniqueP b a) l
+  pub level-meant : (P : Prop Atom) → RootP s P → Level reading P (pairs xs) (r .level .number)
+  level-meant P a = let (Q, b, l) = j .accepted z .level in subst (λ (P : Prop Atom). Level reading P (pairs xs) (r .level .number)) (uniqueP b a) l
 
-  pub level-only : (P : Prop ℕ) → RootP s P → (m : ℕ) → Level signal P xs m → r .level .number ≡ m
-  level-only P a m l = Meaning.level-unique signal P (root-accepted P a) xs (level-meant P a) l
+  pub level-only : (P : Prop Atom) → RootP s P → (m : ℕ) → Level reading P (pairs xs) m → r .level .number ≡ m
+  level-only P a m l = Meaning.level-unique reading P (root-accepted P a) (pairs xs) (level-meant P a) l
 
   module _ (clock : ℕ → Ref) (right : Clocks s clock) where
     same : (other : ℕ → Ref) → Clocks s other → other ≡ clock
@@ -124,10 +125,10 @@ module _ (s xs d : List ℕ) (start : ℕ) (r : MatchEnds) (d′ : List ℕ) (j 
   ends-pass = ends-passes s (length xs) start (length d) (r .verdict) z (j .answer)
 
   -- the ends of the matches of the sequence at the root, clocks and all, and whether it matches on into letters ⊤
-  pub ends-meant : (q : Seq ℕ) → RootS s q → Ends signal q xs start (r .mask .bits) × Tells (r .top) (Onward q xs start)
+  pub ends-meant : (q : Seq Atom) → RootS s q → Ends reading q (pairs xs) start (r .mask .bits) × Tells (r .top) (Onward reading (pairs xs) q start)
   ends-meant q a =
       let (p, b, m, t) = j .accepted z .ends in
-      subst (λ (q : Seq ℕ). Ends signal q xs start (r .mask .bits) × Tells (r .top) (Onward q xs start)) (uniqueS b a) (m, t)
+      subst (λ (q : Seq Atom). Ends reading q (pairs xs) start (r .mask .bits) × Tells (r .top) (Onward reading (pairs xs) q start)) (uniqueS b a) (m, t)
 
   module _ (clock : ℕ → Ref) (right : Clocks s clock) where
     -- the rows, every bit
@@ -144,7 +145,8 @@ module _ (s xs d : List ℕ) (start : ℕ) (r : MatchEnds) (d′ : List ℕ) (j 
         let x = wrongRoot s property in
         let rest = endsRest s (length xs) start (length d) in
         let keeps = new-keeps s x rest ends-pass clock right in
-        let within : start ≤ length xs = le-of-suc-le-suc (lt-of-not-le (λ g. own-parts s x rest ends-pass .1 .1 .1 .0 0 (refl, g))) in
+        let upto : start ≤ length xs = le-of-suc-le-suc (lt-of-not-le (λ g. own-parts s x rest ends-pass .1 .1 .1 .0 0 (refl, g))) in
+        let within : start ≤ length (pairs xs) = let n = length-pairs xs in omega arith in
         let (q, a, m, t) = j .accepted z .ends in
         let b = keeps .sequence q a in
         let l = sound (newTable s clock) accepted (new-accepted s x rest ends-pass clock right) refl .formed .some in
@@ -152,8 +154,8 @@ module _ (s xs d : List ℕ) (start : ℕ) (r : MatchEnds) (d′ : List ℕ) (j 
         let same = keeps .matches q (rewS free q) a b in
         subst (λ (n : ℕ). (r .mask .bits ≡ wordIn d′ (n - 1) start) × (r .top ≡ bitIn d′ (n - 1) topWord start)) (count-is-new s x rest ends-pass clock right) (
           ext (r .mask .bits) (wordIn d′ (root (newTable s clock)) start)
-              (λ i. same-test (record { to = λ h. same (word xs none) start i .0 (m i .0 h .1); from = λ h. let g = same (word xs none) start i .1 h in m i .1 (ends-inside xs q start i within g, g) }) (row .ends start within i)),
-          same-test (is-map t (λ h. (h .0, h .1, same (word xs tops) start (h .0) .0 (h .2))) (λ h. (h .0, h .1, same (word xs tops) start (h .0) .1 (h .2)))) (row .on start within),
+              (λ i. same-test (record { to = λ h. same (word (pairs xs) none) start i .0 (m i .0 h .1); from = λ h. let g = same (word (pairs xs) none) start i .1 h in m i .1 (ends-inside reading (pairs xs) q start i within g, g) }) (row .ends start within i)),
+          same-test (is-map t (λ h. (h .0, h .1, same (word (pairs xs) tops) start (h .0) .0 (h .2))) (λ h. (h .0, h .1, same (word (pairs xs) tops) start (h .0) .1 (h .2)))) (row .on start within),
         )
 
 -- ---- demand 3: a longer record never overturns a 3 or a 0; strong implies neutral implies weak; the rewritten table gives the same three answers
@@ -171,23 +173,25 @@ module _ (s xs ys d e : List ℕ) (r q : Judgement) (d′ e′ : List ℕ) (j : 
 
   module _ (y : q .verdict .number ≡ 0) where
     -- the level of the longer record, where the level of the shorter goes on to m
-    goes-on : {l m : ℕ} → ((P : Prop ℕ) → Accepted signal free P → Level signal P xs l → Level signal P (xs ++ ys) m) → r .level .number ≡ l → q .level .number ≡ m
+    goes-on : {l m : ℕ} → ((P : Prop Atom) → Accepted reading free P → (zs : List Pair) → Level reading P (pairs xs) l → Level reading P (pairs xs ++ zs) m) → r .level .number ≡ l → q .level .number ≡ m
     goes-on {l = l} {m = m} f e =
         let (P, a, v) = j .accepted z .level in
-        level-only s (xs ++ ys) _ q e′ k y P a m (f P (root-accepted s xs d r d′ j z P a) (subst (Level signal P xs) e v))
+        let (zs, more) = pairs-append xs ys in
+        level-only s (xs ++ ys) _ q e′ k y P a m
+        (subst (λ (ls : List Pair). Level reading P ls m) (sym more) (f P (root-accepted s xs d r d′ j z P a) zs (subst (Level reading P (pairs xs)) e v)))
 
     pub held-stays : r .level .number ≡ 3 → q .level .number ≡ 3
-    held-stays = goes-on (λ P c. Meaning.held-stays signal P c xs ys)
+    held-stays = goes-on (λ P c zs. Meaning.held-stays reading P c (pairs xs) zs)
 
     pub broken-stays : r .level .number ≡ 0 → q .level .number ≡ 0
-    broken-stays = goes-on (λ P c. Meaning.broken-stays signal P c xs ys)
+    broken-stays = goes-on (λ P c zs. Meaning.broken-stays reading P c (pairs xs) zs)
 
 module _ (s xs d : List ℕ) (r : Judgement) (d′ : List ℕ) (j : Judges s xs d r d′) (z : r .verdict .number ≡ 0) (clock : ℕ → Ref) (right : Clocks s clock) where
   -- the root's row in the workspace, and what it says of the root of s
   abbrev rootOf : ℕ
   rootOf = newCount s clock - 1
 
-  pub answers-meant : (P : Prop ℕ) → RootP s P → (t : Tail) (i : ℕ) → i ≤ length xs → Tells (bitIn d′ rootOf (wordOf t) i) (Sat signal free P (word xs t) i)
+  pub answers-meant : (P : Prop Atom) → RootP s P → (t : Tail) (i : ℕ) → i ≤ length xs → Tells (bitIn d′ rootOf (wordOf t) i) (Sat reading free P (word (pairs xs) t) i)
   answers-meant P a t i h =
       let n = passes s xs d r d′ j z in
       let w = wrongRoot s sequence in
@@ -197,20 +201,20 @@ module _ (s xs d : List ℕ) (r : Judgement) (d′ : List ℕ) (j : Judges s xs 
       let l = sound (newTable s clock) accepted (new-accepted s w rest n clock right) refl .formed .some in
       let b = keeps .property P a in
       let row = rows-meant s xs d r d′ j z clock right .properties (root (newTable s clock)) (omega arith) (rewP free P) b in
-      is-like (subst (λ (m : ℕ). Tells (bitIn d′ (m - 1) (wordOf t) i) (Sat signal free (rewP free P) (word xs t) i)) c (row .answers t i h)) (keeps .answers P (rewP free P) a b xs t i)
+      is-like (subst (λ (m : ℕ). Tells (bitIn d′ (m - 1) (wordOf t) i) (Sat reading free (rewP free P) (word (pairs xs) t) i)) c (row .answers t i (let n = length-pairs xs in omega arith))) (keeps .answers P (rewP free P) a b (pairs xs) t i)
 
   -- in the workspace as in the meaning: strong implies neutral implies weak
   pub answers-ordered : (T (bitIn d′ rootOf (wordOf bots) 0) → T (bitIn d′ rootOf (wordOf none) 0)) × (T (bitIn d′ rootOf (wordOf none) 0) → T (bitIn d′ rootOf (wordOf tops) 0))
   answers-ordered =
       let (P, a, _) = j .accepted z .level in
       let c = root-accepted s xs d r d′ j z P a in (
-        λ h. answers-meant P a none 0 (omega arith) .from (Meaning.strong-implies-neutral signal P c xs (answers-meant P a bots 0 (omega arith) .to h)),
-        λ h. answers-meant P a tops 0 (omega arith) .from (Meaning.neutral-implies-weak signal P c xs (answers-meant P a none 0 (omega arith) .to h)),
+        λ h. answers-meant P a none 0 (omega arith) .from (Meaning.strong-implies-neutral reading P c (pairs xs) (answers-meant P a bots 0 (omega arith) .to h)),
+        λ h. answers-meant P a tops 0 (omega arith) .from (Meaning.neutral-implies-weak reading P c (pairs xs) (answers-meant P a none 0 (omega arith) .to h)),
       )
 
   -- the rewritten table's own answers are those of the clocked table,
-  pub rewritten-answers : (P Q : Prop ℕ) → RootP s P → RootP (newTable s clock) Q → (t : Tail) → Sat signal free P (word xs t) zero ↔ Sat signal free Q (word xs t) zero
-  rewritten-answers P Q a b t = new-keeps s (wrongRoot s sequence) (judgeRest s (length xs) (length d)) (passes s xs d r d′ j z) clock right .answers P Q a b xs t zero
+  pub rewritten-answers : (P Q : Prop Atom) → RootP s P → RootP (newTable s clock) Q → (t : Tail) → Sat reading free P (word (pairs xs) t) zero ↔ Sat reading free Q (word (pairs xs) t) zero
+  rewritten-answers P Q a b t = new-keeps s (wrongRoot s sequence) (judgeRest s (length xs) (length d)) (passes s xs d r d′ j z) clock right .answers P Q a b (pairs xs) t zero
 
   -- and the judge, given the rewritten table and the same samples,
   module _ (e : List ℕ) (q : Judgement) (e′ : List ℕ) (k : Judges (newTable s clock) xs e q e′) where
@@ -241,9 +245,10 @@ module _ (s xs d : List ℕ) (r : Judgement) (d′ : List ℕ) (j : Judges s xs 
         let (P, a, l) = j .accepted z .level in
         let keeps = new-keeps s (wrongRoot s sequence) (judgeRest s (length xs) (length d)) (passes s xs d r d′ j z) clock right in
         let b = keeps .property P a in
-        sym (level-only (newTable s clock) xs e q e′ k y (rewP free P) b (r .level .number) (keeps .levels P (rewP free P) a b xs (r .level .number) .0 l))
+        sym (level-only (newTable s clock) xs e q e′ k y (rewP free P) b (r .level .number) (keeps .levels P (rewP free P) a b (pairs xs) (r .level .number) .0 l))
 
 -- ---- the empty record leaves every accepted property open
 
 pub empty-open : (s d : List ℕ) (r : Judgement) (d′ : List ℕ) → Judges s [] d r d′ → r .verdict .number ≡ 0 → (r .level .number ≡ 1) ⊎ (r .level .number ≡ 2)
-empty-open s d r d′ j z = let (P, a, l) = j .accepted z .level in Meaning.empty-open signal P (root-accepted s [] d r d′ j z P a) l
+unfolding pairsAfter
+empty-open s d r d′ j z = let (P, a, l) = j .accepted z .level in Meaning.empty-open reading P (root-accepted s [] d r d′ j z P a) l

@@ -23,7 +23,8 @@ use Rattle.meaning.specs.declared.Level.{Level}
 use Rattle.meaning.specs.Syntax.{Seq, Prop, free}
 use Rattle.meaning.specs.Words.{word, none, tops, bots}
 use Rattle.meaning.specs.Meaning as Meaning
-use Rattle.meaning.specs.Signal.{signal}
+use Rattle.meaning.specs.Pairs.{Atom, reading, pairs}
+use Rattle.meaning.proofs.Pairing.{length-pairs}
 use Rattle.meaning.specs.Rewriting.{rewS, rewP}
 use Rattle.meaning.proofs.Leveling.{level-from}
 use Rattle.nodes.specs.Operators.{sequence, property}
@@ -180,13 +181,13 @@ module _ (s : List ℕ) (wrong n start words : ℕ) (lent : List ℕ) (r : Rewri
   in-root = let l = new-built .some in omega arith
 
   -- the root of s is of the other sort
-  sequence-at-root : wrong ≡ property → (q : Seq ℕ) × RootS s q
+  sequence-at-root : wrong ≡ property → (q : Seq Atom) × RootS s q
   sequence-at-root e =
       let l : root s < count s = let h = built .some in omega arith in
       ⊎-elim (sequence-in s (count s) (built .fit) (count s) (root s) l l) (λ (f : sortAt s (root s) ≡ property). absurd (other-root (f ∙ sym e)))
       (sorts s (root s) (built .fit (root s) l) (built .rooted))
 
-  property-at-root : wrong ≡ sequence → (P : Prop ℕ) × RootP s P
+  property-at-root : wrong ≡ sequence → (P : Prop Atom) × RootP s P
   property-at-root e =
       let l : root s < count s = let h = built .some in omega arith in
       ⊎-elim (λ (f : sortAt s (root s) ≡ sequence). absurd (other-root (f ∙ sym e))) (property-in s (count s) (built .fit) (count s) (root s) l l)
@@ -197,8 +198,8 @@ module _ (s : List ℕ) (wrong n start words : ℕ) (lent : List ℕ) (r : Rewri
     short : length xs ≤ longest
     short = let l = not-long in omega arith
 
-    within : start ≤ length xs
-    within = let l = not-above in omega arith
+    within : start ≤ length (pairs xs)
+    within = let l = not-above in let n = length-pairs xs in omega arith
 
     enough : share * count t ≤ length d
     enough = let l = not-small in let c = count-is in omega arith
@@ -229,21 +230,21 @@ module _ (s : List ℕ) (wrong n start words : ℕ) (lent : List ℕ) (r : Rewri
       implies-rows = subst (Testing t (length xs) d′) count-is (testing t xs d d′ new-built short rows (let l = rows .long in let h = enough in omega arith))
 
       -- what the root's row says of the root of s, clocks and all
-      level-right : wrong ≡ sequence → (P : Prop ℕ) × RootP s P × Meaning.Level signal P xs (levelIn d′ (r .count - 1))
+      level-right : wrong ≡ sequence → (P : Prop Atom) × RootP s P × Meaning.Level reading P (pairs xs) (levelIn d′ (r .count - 1))
       unfolding levelIn
       level-right g =
           let (P, a) = property-at-root g in
           let b = keeps .property P a in
           let row = rows .properties (root t) in-root (rewP free P) b in
-          (P, a, keeps .levels P (rewP free P) a b xs _ .1 (rw last-is (level-from signal (row .answers bots 0 (omega arith)) (row .answers none 0 (omega arith)) (row .answers tops 0 (omega arith)))))
+          (P, a, keeps .levels P (rewP free P) a b (pairs xs) _ .1 (rw last-is (level-from reading (row .answers bots 0 (omega arith)) (row .answers none 0 (omega arith)) (row .answers tops 0 (omega arith)))))
 
       tested-right : (b : Bool) → b ≡ testedIn t (length xs) d′ (r .count) → OfClocks s (λ κ. Tells b (Tested (newTable s κ) xs))
       tested-right b eb =
           let means = tested-means t xs d d′ new-built short rows in
           (clock, right, subst (λ (u : List ℕ). Tells b (Tested u xs)) table-is (is-as (eb ∙ ap (testedIn t (length xs) d′) (sym count-is)) means))
 
-      ends-right : wrong ≡ property → (q : Seq ℕ) × RootS s q × Meaning.Ends signal q xs start (wordIn d′ (r .count - 1) start)
-          × Tells (bitIn d′ (r .count - 1) topWord start) (Onward q xs start)
+      ends-right : wrong ≡ property → (q : Seq Atom) × RootS s q × Meaning.Ends reading q (pairs xs) start (wordIn d′ (r .count - 1) start)
+          × Tells (bitIn d′ (r .count - 1) topWord start) (Onward reading (pairs xs) q start)
       ends-right g =
           let (q, a) = sequence-at-root g in
           let b = keeps .sequence q a in
@@ -252,10 +253,10 @@ module _ (s : List ℕ) (wrong n start words : ℕ) (lent : List ℕ) (r : Rewri
             q,
             a,
             rw last-is (λ j. (
-              λ h. let m = row .ends start within j .to h in (ends-inside xs (rewS free q) start j within m, same (word xs none) start j .1 m),
-              λ m. row .ends start within j .from (same (word xs none) start j .0 (m .1)),
+              λ h. let m = row .ends start within j .to h in (ends-inside reading (pairs xs) (rewS free q) start j within m, same (word (pairs xs) none) start j .1 m),
+              λ m. row .ends start within j .from (same (word (pairs xs) none) start j .0 (m .1)),
             )),
-            rw last-is (is-map (row .on start within) (λ m. (m .0, m .1, same (word xs tops) start (m .0) .1 (m .2))) (λ m. (m .0, m .1, same (word xs tops) start (m .0) .0 (m .2)))),
+            rw last-is (is-map (row .on start within) (λ m. (m .0, m .1, same (word (pairs xs) tops) start (m .0) .1 (m .2))) (λ m. (m .0, m .1, same (word (pairs xs) tops) start (m .0) .0 (m .2)))),
           )
 
 -- what the judge and match ends ask of the rows that are laid, and what they answer

@@ -11,6 +11,8 @@ use Rattle.telling.specs.Tells.{Tells, some}
 use Rattle.telling.proofs.Telling.{passes, passed, is-map, is-and-then, is-or, is-not, is-some, is-le}
 use Rattle.refusal.specs.Heading.{count}
 use Rattle.meaning.specs.Syntax.{Seq}
+use Rattle.meaning.specs.Pairs.{Atom, reading, pairs}
+use Rattle.meaning.proofs.Pairing.{length-pairs}
 use Rattle.nodes.specs.declared.Raw.{Raw}
 use Rattle.nodes.specs.declared.Node.the-variants.{Property}
 use Rattle.nodes.specs.declared.PropertyOp.the-variants.{Implies}
@@ -44,8 +46,12 @@ module _ (t : List ℕ) (k : ℕ) (fit : WellFormed t k) where
 
 -- the test of the rows tells of the table, where the rows mean their trees
 module _ (t xs d ws : List ℕ) (ok : Built t) (short : length xs ≤ longest) (rows : Filled t xs d ws) where
+  -- the sequence at x is matched
+  abbrev MatchedAt : ℕ → Type 0
+  MatchedAt x = Matched reading (pairs xs) (SequenceAt (nodeAt t) x)
+
   -- the row of a `|->`'s sequence
-  left-row : (k x y : ℕ) → k < count t → nodeAt t k ≡ Property (Implies x y) → (q : Seq ℕ) × SequenceAt (nodeAt t) x q × SequenceRow xs (wordIn ws x) q
+  left-row : (k x y : ℕ) → k < count t → nodeAt t k ≡ Property (Implies x y) → (q : Seq Atom) × SequenceAt (nodeAt t) x q × SequenceRow reading (pairs xs) (wordIn ws x) q
   left-row k x y h e =
       let ((l, sort, _), _) = down t k (ok .fit k h) e in
       let (q, a) = sequence-in t (count t) (ok .fit) (count t) x (omega arith) (omega arith) sort in
@@ -57,31 +63,33 @@ module _ (t xs d ws : List ℕ) (ok : Built t) (short : length xs ≤ longest) (
     from = λ q. passed (node-implies t k (ok .fit k h) (q .0) (q .1 .y) (q .1 .node) .0);
   }
 
-  matched-tells : (x : ℕ) (q : Seq ℕ) → SequenceAt (nodeAt t) x q → SequenceRow xs (wordIn ws x) q → Tells (some (starts ws (length xs) x) 0 64) (Matched t xs x)
+  matched-tells : (x : ℕ) (q : Seq Atom) → SequenceAt (nodeAt t) x q → SequenceRow reading (pairs xs) (wordIn ws x) q → Tells (some (starts ws (length xs) x) 0 64) (MatchedAt x)
   matched-tells x q a row =
-      is-map
-      (is-some 0 64 (λ i u v. is-and-then (is-le i (length xs)) (λ h. is-some 0 64 (λ j u v. longer-tells xs ws x q row i h j))))
+      let n = length-pairs xs in
+      rw (← n)
+      (is-map
+      (is-some 0 64 (λ i u v. is-and-then (is-le i (length (pairs xs))) (λ h. is-some 0 64 (λ j u v. longer-tells reading (pairs xs) ws x q row i h j))))
       (λ m.
       let (i, _, _, (h, (j, _, _, (inside, l)))) = m in
-      record { sequence = q; stands = a; start = i; end = j; longer = omega arith; inside = ends-inside xs q i j h inside; matches = inside })
+      record { sequence = q; stands = a; start = i; end = j; longer = omega arith; inside = ends-inside reading (pairs xs) q i j h inside; matches = inside })
       (λ m.
       let l = m .longer in
       let h = m .inside in
       let same : m .sequence ≡ q = uniqueS (m .stands) a in
-      (m .start, omega arith, omega arith, (omega arith, (m .end, omega arith, omega arith, (subst (λ (p : Seq ℕ). Inside p xs (m .start) (m .end)) same (m .matches), omega arith)))))
+      (m .start, omega arith, omega arith, (omega arith, (m .end, omega arith, omega arith, (subst (λ (p : Seq Atom). Inside reading (pairs xs) p (m .start) (m .end)) same (m .matches), omega arith))))))
 
-  implies-matched-tells : (k : ℕ) → k < count t → Tells (impliesMatched t (length xs) ws k) ((x : ℕ) × ImpliesAt t k x × Matched t xs x)
+  implies-matched-tells : (k : ℕ) → k < count t → Tells (impliesMatched t (length xs) ws k) ((x : ℕ) × ImpliesAt t k x × MatchedAt x)
   implies-matched-tells k h =
       is-map
       (is-and-then (implies-tells k h) (λ q. let (p, a, row) = left-row k (rawAt t k .x) (rawAt t k .y) h (implies-node t k (ok .fit k h) (passes (implies-tells k h .from q))) in matched-tells (rawAt t k .x) p a row))
       (λ q.
       let ((x, i), m) = q in
       let e = node-implies t k (ok .fit k h) x (i .y) (i .node) .1 in
-      (x, i, subst (Matched t xs) (sym e) m))
+      (x, i, subst MatchedAt (sym e) m))
       (λ q.
       let (x, i, m) = q in
       let e = node-implies t k (ok .fit k h) x (i .y) (i .node) .1 in
-      ((x, i), subst (Matched t xs) e m))
+      ((x, i), subst MatchedAt e m))
 
   pub tested-means : Tells (testedIn t (length xs) ws (count t)) (Tested t xs)
   unfolding testedIn

@@ -11,7 +11,7 @@ use Rattle.refusal.specs.Computed.{accepted}
 use Rattle.refusal.proofs.Unique.{Singles, single-when, singles-append, by-verdict}
 use Rattle.meaning.specs.Syntax.{Seq, Prop}
 use Rattle.meaning.specs.Meaning.{Level, Ends}
-use Rattle.meaning.specs.Signal.{signal}
+use Rattle.meaning.specs.Pairs.{Atom, reading, pairs}
 use Rattle.meaning.proofs.Theorems.{level-unique}
 use Rattle.nodes.specs.NodeClock.{Ref}
 use Rattle.table.specs.Check as Check
@@ -59,7 +59,7 @@ module _ (s : List ℕ) (x : Refusal) (rest : List Refusal) (n : NotGiven (Check
       numbers =
           let (P, f, l) = a .level in
           let (Q, g, m) = b .level in
-          level-unique signal P (accepted-root s accepted (table-checks s x rest n) refl P f) xs l (subst (λ (Q : Prop ℕ). Level signal Q xs (q .level .number)) (uniqueP g f) m)
+          level-unique reading P (accepted-root s accepted (table-checks s x rest n) refl P f) (pairs xs) l (subst (λ (Q : Prop Atom). Level reading Q (pairs xs) (q .level .number)) (uniqueP g f) m)
 
       levels : r .level ≡ q .level
       levels = λ i. record { number = numbers i }
@@ -71,12 +71,12 @@ module _ (s : List ℕ) (x : Refusal) (rest : List Refusal) (n : NotGiven (Check
   same-ends xs d start r q d′ e′ v a b = (λ i. record { verdict = v i; mask = record { bits = masks i }; top = tops i }, same-rows xs d d′ e′ (a .rows) (b .rows))
     where
       -- both are of one sequence
-      both : (p : Seq ℕ) × Ends signal p xs start (r .mask .bits) × Ends signal p xs start (q .mask .bits) × Tells (r .top) (Onward p xs start) × Tells (q .top) (Onward p xs start)
+      both : (p : Seq Atom) × Ends reading p (pairs xs) start (r .mask .bits) × Ends reading p (pairs xs) start (q .mask .bits) × Tells (r .top) (Onward reading (pairs xs) p start) × Tells (q .top) (Onward reading (pairs xs) p start)
       both =
           let (p, f, m, t) = a .ends in
           let (p′, f′, m′, t′) = b .ends in
           let e = uniqueS f′ f in
-          (p, m, subst (λ (p : Seq ℕ). Ends signal p xs start (q .mask .bits)) e m′, t, subst (λ (p : Seq ℕ). Tells (q .top) (Onward p xs start)) e t′)
+          (p, m, subst (λ (p : Seq Atom). Ends reading p (pairs xs) start (q .mask .bits)) e m′, t, subst (λ (p : Seq Atom). Tells (q .top) (Onward reading (pairs xs) p start)) e t′)
 
       masks : r .mask .bits ≡ q .mask .bits
       masks = let (p, m, m′, t, t′) = both in ext (r .mask .bits) (q .mask .bits) (λ j. same-test (record { to = m j .0; from = m j .1 }) (record { to = m′ j .0; from = m′ j .1 }))

@@ -9,14 +9,24 @@ use Rattle.telling.specs.Tells.{Tells}
 use Rattle.telling.proofs.Telling.{is-map, is-and, is-lt, is-as}
 use Rattle.positions.specs.Member.{has}
 use Rattle.positions.proofs.Laws.{has-collect}
-use Rattle.nodes.specs.declared.Node.{Node}
+use Rattle.nodes.specs.declared.BooleanOp.{BooleanOp}
+use Rattle.nodes.specs.declared.SequenceOp.{SequenceOp}
+use Rattle.nodes.specs.declared.PropertyOp.{PropertyOp}
 use Rattle.cells.specs.Shares.{share}
 use Rattle.cells.specs.Stored.{set64}
-use Rattle.rows.specs.Rows.{nodeWord}
+use Rattle.sequences.specs.Made.{sequenceWord}
+use Rattle.rows.specs.Rows.{booleanWord, propertyWord}
 
--- `row` is the row of the node v on the samples xs, made of the rows R below. A record, so that all four are read off a proof's type
-pub record Laid (xs R : List ℕ) (v : Node) (row : ℕ → ℕ) : Type 0 where
-  pub word : (i : ℕ) → i < share → row i ≡ nodeWord R xs v i
+-- `row` is the row of a node, made of the rows R below: of a boolean on the samples xs, of a sequence or a property on n of them. Records, so that all is
+-- read off a proof's type
+pub record BooleanLaid (xs R : List ℕ) (op : BooleanOp) (row : ℕ → ℕ) : Type 0 where
+  pub word : (i : ℕ) → i < share → row i ≡ booleanWord R xs op i
+
+pub record SequenceLaid (n : ℕ) (R : List ℕ) (op : SequenceOp) (row : ℕ → ℕ) : Type 0 where
+  pub word : (i : ℕ) → i < share → row i ≡ sequenceWord R n op i
+
+pub record PropertyLaid (n : ℕ) (R : List ℕ) (op : PropertyOp) (row : ℕ → ℕ) : Type 0 where
+  pub word : (i : ℕ) → i < share → row i ≡ propertyWord R n op i
 
 -- what the test tells holds of places below 64 alone
 pub in-word : (f : ℕ → Bool) (j : ℕ) {P : Type 0} → (P → j < 64) → Tells (f j) P → Tells (has (set64 f) j) P

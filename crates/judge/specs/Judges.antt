@@ -9,7 +9,7 @@ use Rattle.telling.specs.Tells.{Tells}
 use Rattle.refusal.specs.First.{Answers}
 use Rattle.meaning.specs.Syntax.{Seq, Prop}
 use Rattle.meaning.specs.Meaning.{Level, Ends}
-use Rattle.meaning.specs.Signal.{signal}
+use Rattle.meaning.specs.Pairs.{Atom, reading, pairs}
 use Rattle.table.specs.Trees.{RootS, RootP}
 use Rattle.writing.specs.Tables.{newTable}
 use Rattle.rewrite.specs.Rewrites.{OfClocks}
@@ -23,9 +23,10 @@ use Rattle.judge.specs.Rows.{Onward, Filled}
 abbrev pub Rowed : List ℕ → List ℕ → List ℕ → List ℕ → Type 0
 Rowed s xs d d′ = OfClocks s (λ clock. Filled (newTable s clock) xs d d′)
 
--- an acceptance: the level is that of the property at the root of s, clocks and all; tested is yes exactly if the rewritten table is; and the rows
+-- an acceptance: the level is that of the property at the root of s, clocks and all, on the pairs of the samples; tested is yes exactly if the rewritten
+-- table is; and the rows
 pub record Judged (s xs d : List ℕ) (r : Judgement) (d′ : List ℕ) : Type 0 where
-  pub level : (P : Prop ℕ) × RootP s P × Level signal P xs (r .level .number)
+  pub level : (P : Prop Atom) × RootP s P × Level reading P (pairs xs) (r .level .number)
   pub tested : OfClocks s (λ clock. Tells (r .tested) (Tested (newTable s clock) xs))
   pub rows : Rowed s xs d d′
 
@@ -40,7 +41,7 @@ pub record Judges (s xs d : List ℕ) (r : Judgement) (d′ : List ℕ) : Type 0
 -- an acceptance of match ends: bit j of the mask is set where samples start to j - 1 match the sequence at the root of s, clocks and all; `top` is yes
 -- exactly if the samples from start on, followed by one or more ⊤, match it; and the rows
 pub record Ended (s xs d : List ℕ) (start : ℕ) (r : MatchEnds) (d′ : List ℕ) : Type 0 where
-  pub ends : (q : Seq ℕ) × RootS s q × Ends signal q xs start (r .mask .bits) × Tells (r .top) (Onward q xs start)
+  pub ends : (q : Seq Atom) × RootS s q × Ends reading q (pairs xs) start (r .mask .bits) × Tells (r .top) (Onward reading (pairs xs) q start)
   pub rows : Rowed s xs d d′
 
 -- the statement of match ends. No second answer and no second workspace fit (`proofs/Unique.antt`, `ends-unique`)
