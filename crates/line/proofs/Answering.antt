@@ -14,7 +14,7 @@ use Rattle.telling.proofs.Telling.{decide, is-eq}
 use Rattle.refusal.proofs.Given.{none-given, not-given-append, answers-after, answers-beyond}
 use Rattle.meaning.specs.Syntax.{Prop}
 use Rattle.meaning.specs.Meaning.{Level, level3, level2, level1, level0}
-use Rattle.meaning.specs.Signal.{signal}
+use Rattle.meaning.specs.Pairs.{Atom, Pair, reading}
 use Rattle.table.specs.Check as Check
 use Rattle.record.specs.declared.Reading.{Reading}
 use Rattle.record.specs.Record as Record
@@ -150,7 +150,7 @@ few-samples r d reading words reads = ⊎-elim good bad (decide (is-eq (reading 
 pub within-words : (r d : List ℕ) (reading : Reading) (words : List ℕ) → Reads r d reading words → length words ≡ 63 → reading .count ≤ length words
 within-words r d reading words reads size = let l = few-samples r d reading words reads in omega arith
 
-low-level : {P : Prop ℕ} {xs : List ℕ} {n : ℕ} → Level signal P xs n → n < 10
+low-level : {P : Prop Atom} {xs : List Pair} {n : ℕ} → Level reading P xs n → n < 10
 low-level (level3 _) = omega arith
 low-level (level2 _ _) = omega arith
 low-level (level1 _ _) = omega arith

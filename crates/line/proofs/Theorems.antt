@@ -10,11 +10,11 @@ use lib.Seq.{getD-take, take-take, take-add, drop-at, length-take-le}
 use Rattle.telling.proofs.Telling.{decide, is-lt}
 use Rattle.refusal.specs.declared.Verdict.{Verdict}
 use Rattle.refusal.specs.First.{Refusal, when, Answers}
-use Rattle.refusal.specs.Heading.{number, count, version, mark, headingRefusals}
+use Rattle.refusal.specs.Heading.{number, count, version, mark, Known, headingRefusals}
 use Rattle.refusal.proofs.Given.{answers-after, answers-none, none-given, not-given-append}
 use Rattle.refusal.proofs.Unique.{Singles, single-when, singles-append, by-verdict}
 use Rattle.record.proofs.Unique.{record-singles}
-use Rattle.nodes.specs.Operators.{sequence}
+use Rattle.nodes.specs.Operators.{sequence, newest}
 use Rattle.table.specs.Check as Check
 use Rattle.table.proofs.Checking.{table-singles}
 use Rattle.rewrite.specs.Rewrites.{tooMany}
@@ -78,24 +78,24 @@ module _ (s t : List ℕ) (long : 6 ≤ length s) (long′ : 6 ≤ length t) (sa
   not-short k y = let l = y .1 in omega arith
 
   -- 1 to 3 are theirs alike, and what follows decides where they are not given
-  opening : (letter : ℕ) (rs ss : List Refusal) (v : Verdict) → (Answers rs v → (Answers ss v) × (¬ (v .number ≡ 0))) → Answers (headingRefusals letter s ++ rs) v
-      → (Answers (headingRefusals letter t ++ ss) v) × (¬ (v .number ≡ 0))
+  opening : (letter newest : ℕ) (rs ss : List Refusal) (v : Verdict) → (Answers rs v → (Answers ss v) × (¬ (v .number ≡ 0))) → Answers (headingRefusals letter newest s ++ rs) v
+      → (Answers (headingRefusals letter newest t ++ ss) v) × (¬ (v .number ≡ 0))
   unfolding Answers
-  opening letter rs ss v f (inl (_, (_, l))) = absurd (omega arith)
-  opening letter rs ss v f (inr (_, inl (n, (e, g)))) = (inr (not-short, inl (n, (e, λ m. g (within 3 (omega arith) ∙ m)))), λ z. omega arith)
-  opening letter rs ss v f (inr (_, inr (marked, b))) = rest b
+  opening letter newest rs ss v f (inl (_, (_, l))) = absurd (omega arith)
+  opening letter newest rs ss v f (inr (_, inl (n, (e, g)))) = (inr (not-short, inl (n, (e, λ m. g (within 3 (omega arith) ∙ m)))), λ z. omega arith)
+  opening letter newest rs ss v f (inr (_, inr (marked, b))) = rest b
     where
       marked′ : (k : ℕ) → ¬ ((k ≡ 0) × (¬ (take 3 t ≡ mark letter)))
       marked′ k y = marked k (y .0, λ m. y .1 (sym (within 3 (omega arith)) ∙ m))
 
-      rest : Answers (when 3 (¬ (version s ≡ 1)) ∷ rs) v → (Answers (headingRefusals letter t ++ ss) v) × (¬ (v .number ≡ 0))
-      rest (inl (n, (e, g))) = (inr (not-short, inr (marked′, inl (n, (e, λ m. g (same-version ∙ m))))), λ z. omega arith)
-      rest (inr (versed, a)) = let (b, z) = f a in (inr (not-short, inr (marked′, inr (λ k y. versed k (y .0, λ m. y .1 (sym same-version ∙ m)), b))), z)
+      rest : Answers (when 3 (¬ Known newest (version s)) ∷ rs) v → (Answers (headingRefusals letter newest t ++ ss) v) × (¬ (v .number ≡ 0))
+      rest (inl (n, (e, g))) = (inr (not-short, inr (marked′, inl (n, (e, λ m. g (subst (Known newest) (sym same-version) m))))), λ z. omega arith)
+      rest (inr (versed, a)) = let (b, z) = f a in (inr (not-short, inr (marked′, inr (λ k y. versed k (y .0, λ m. y .1 (subst (Known newest) same-version m)), b))), z)
 
   -- of a table with too many nodes nothing else is asked
   many-refused : 120 < count s → (rs ss : List Refusal) (v : Verdict) → Answers (Check.refusals s ++ rs) v → (Answers (Check.refusals t ++ ss) v) × (¬ (v .number ≡ 0))
   unfolding Check.refusals Answers
-  many-refused h rs ss v = opening 0x54 (drop 3 (Check.refusals s) ++ rs) (drop 3 (Check.refusals t) ++ ss) v own
+  many-refused h rs ss v = opening 0x54 newest (drop 3 (Check.refusals s) ++ rs) (drop 3 (Check.refusals t) ++ ss) v own
     where
       own : Answers (drop 3 (Check.refusals s) ++ rs) v → (Answers (drop 3 (Check.refusals t) ++ ss) v) × (¬ (v .number ≡ 0))
       own (inl (n, (e, g))) = (inl (n, (e, inr (let c = same-count in omega arith))), λ z. omega arith)
@@ -104,7 +104,7 @@ module _ (s t : List ℕ) (long : 6 ≤ length s) (long′ : 6 ≤ length t) (sa
   -- of a record with more bytes than any record has, the length is the last that is asked
   long-refused : 511 ≤ length s → 511 ≤ length t → (v : Verdict) → Answers (Record.refusals s longest) v → (Answers (Record.refusals t longest) v) × (¬ (v .number ≡ 0))
   unfolding Record.refusals Answers
-  long-refused l l′ v = opening 0x57 (drop 3 (Record.refusals s longest)) (drop 3 (Record.refusals t longest)) v own
+  long-refused l l′ v = opening 0x57 1 (drop 3 (Record.refusals s longest)) (drop 3 (Record.refusals t longest)) v own
     where
       short : ((k : ℕ) → ¬ ((k ≡ 0) × (63 < count s))) → count s ≤ 63
       short few = le-of-suc-le-suc (lt-of-not-le (λ g. few 0 (refl, g)))

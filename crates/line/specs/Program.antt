@@ -10,7 +10,7 @@ use Rattle.refusal.specs.First.{Refusal, Answers}
 use Rattle.refusal.specs.Heading.{count}
 use Rattle.meaning.specs.Syntax.{Prop}
 use Rattle.meaning.specs.Meaning.{Level}
-use Rattle.meaning.specs.Signal.{signal}
+use Rattle.meaning.specs.Pairs.{Atom, reading, pairs}
 use Rattle.nodes.specs.Operators.{sequence}
 use Rattle.table.specs.Trees.{RootP}
 use Rattle.table.specs.Check as Check
@@ -69,12 +69,12 @@ pub record Says (s d : List ℕ) (r : ℕ) (d′ : List ℕ) : Type 0 where
 
 -- ---- what the theorem on an accepted input speaks of
 
--- the level that the published meaning gives the property at the root of the table part on the samples of the record, and whether the rewritten table was tested
+-- the level that the published meaning gives the property at the root of the table part on the pairs of the record's samples, and whether the rewritten table was tested
 pub record Told (s line : List ℕ) : Type 0 where
-  pub property : Prop ℕ
+  pub property : Prop Atom
   pub root : RootP (tablePart s) property
   pub number : ℕ
-  pub level : Level signal property (samplesOf s) number
+  pub level : Level reading property (pairs (samplesOf s)) number
   pub tests : Bool
   pub tested : OfClocks (tablePart s) (λ clock. Tells tests (Tested (newTable (tablePart s) clock) (samplesOf s)))
   pub is : line ≡ levelLine number tests
