@@ -10,5 +10,6 @@ pub mod Same
 pub mod Testing
 pub mod Judging
 pub mod Unique
--- The demands.
+-- The demands, and that the answers on tables of version 1 stay.
 pub mod Demands
+pub mod VersionOne

@@ -2,5 +2,7 @@
 pub mod Tested
 pub mod Rows
 pub mod Judges
+-- The same of a table of version 1, over samples.
+pub mod BySamples
 -- What the code is held to on the way there.
 pub mod Computed

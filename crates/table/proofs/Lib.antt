@@ -3,6 +3,7 @@ pub mod Theorems
 pub mod Forming
 pub mod Reading
 pub mod Standing
+pub mod VersionOne
 pub mod Topping
 pub mod Within
 pub mod Checking
