@@ -93,7 +93,7 @@ impl Run {
                 found.store(true, Ordering::Relaxed);
                 return ControlFlow::Break(seed);
             }
-            summary.count(&answer);
+            summary.count(&case, &answer);
         }
         ControlFlow::Continue(summary)
     }

@@ -1,12 +1,17 @@
 //! What the cases of a run were, so that it is seen that they were not all alike.
 use crate::run::USUAL;
-use second::Answer;
+use second::{Answer, Case};
 use std::fmt;
 
 const KINDS: [&str; 6] = ["check", "read", "rewrite", "judge", "ends", "program"];
+const READ: usize = 1;
+const JUDGE: usize = 3;
 const TESTED: [&str; 2] = ["no", "yes"];
 
-/// The refusals that each kind can give: a run of the usual size has each of them, some about 30 times.
+/// What accepted tables are told apart by: their version, and whether some node asks if a signal has risen or has fallen.
+const TABLES: [&str; 4] = ["version 1", "version 2", "risen", "fallen"];
+
+/// The refusals that each kind can give: a run of the usual size has each of them, some about 20 times.
 const REFUSALS: [&[usize]; 6] = [
     &[1, 2, 3, 4, 5, 6, 7, 8, 9],
     &[1, 2, 3, 5, 10, 15],
@@ -16,10 +21,11 @@ const REFUSALS: [&[usize]; 6] = [
     &[1, 2, 3, 4, 5, 6, 7, 8, 9, 10, 12, 13],
 ];
 
-/// How many answers there were by kind and number, where 0 is an acceptance, and how many had each level.
+/// How many answers there were by kind and number, where 0 is an acceptance, how many of the accepted had a table of each of TABLES, and how many had each level.
 #[derive(Clone, Debug, Default, PartialEq, Eq)]
 pub struct Summary {
     numbers: [[u64; 16]; 6],
+    tables: [[u64; 4]; 6],
     levels: [u64; 4],
     tested: [u64; 2],
 }
@@ -32,10 +38,13 @@ struct Told {
 }
 
 impl Summary {
-    /// Counts one answer.
-    pub fn count(&mut self, answer: &Answer) {
+    /// Counts one case with its answer.
+    pub fn count(&mut self, case: &Case, answer: &Answer) {
         let told = Told::by(answer);
         self.numbers[told.kind][told.number] += 1;
+        if told.number == 0 {
+            sum(&mut self.tables[told.kind], &table_counts(case));
+        }
         if let Some((level, tested)) = told.judged {
             self.levels[level] += 1;
             self.tested[usize::from(tested)] += 1;
@@ -48,6 +57,7 @@ impl Summary {
             self.numbers.as_flattened_mut(),
             other.numbers.as_flattened(),
         );
+        sum(self.tables.as_flattened_mut(), other.tables.as_flattened());
         sum(&mut self.levels, &other.levels);
         sum(&mut self.tested, &other.tested);
     }
@@ -60,15 +70,6 @@ impl Summary {
     /// How many answers of a kind refused.
     fn refused(&self, kind: usize) -> u64 {
         self.numbers[kind][1..].iter().sum()
-    }
-
-    /// How many answers of any kind had each number.
-    fn of_any_kind(&self) -> [u64; 16] {
-        let mut all = [0; 16];
-        for of_kind in &self.numbers {
-            sum(&mut all, of_kind);
-        }
-        all
     }
 
     /// What a run of so many cases should have had more of. A share below one case is not asked for,
@@ -85,6 +86,11 @@ impl Summary {
             let had = &self.numbers[kind];
             ask(format!("{name} accepted"), had[0], cases / 500);
             ask(format!("{name} refused"), self.refused(kind), cases / 500);
+            if kind != READ {
+                for (table, had) in TABLES.iter().zip(self.tables[kind]) {
+                    ask(format!("{name} accepted, {table}"), had, cases / 500);
+                }
+            }
             for &number in REFUSALS[kind] {
                 ask(
                     format!("{name} refused {number}"),
@@ -93,7 +99,7 @@ impl Summary {
                 );
             }
         }
-        for (number, had) in self.of_any_kind().iter().enumerate().skip(1) {
+        for (number, had) in of_any_kind(&self.numbers).iter().enumerate().skip(1) {
             ask(format!("refused {number}"), *had, cases / 4000);
         }
         for (level, had) in self.levels.iter().enumerate() {
@@ -106,6 +112,27 @@ impl Summary {
     }
 }
 
+/// 1 for each of TABLES that holds of the table of an accepted case, else 0; a record has none.
+fn table_counts(case: &Case) -> [u64; 4] {
+    let table = match case {
+        Case::Read { .. } => return [0; 4],
+        Case::Check { table } | Case::Rewrite { table, .. } => table,
+        Case::Judge { table, .. } | Case::Ends { table, .. } => table,
+        Case::Program { input } => &input[..6 + 4 * usize::from(input[5])],
+    };
+    let has = |asked: u8| table[6..].chunks(4).any(|node| node[0] == asked);
+    [table[3] == 1, table[3] == 2, has(5), has(6)].map(u64::from)
+}
+
+/// The counts of all kinds together.
+fn of_any_kind<const N: usize>(by_kind: &[[u64; N]; 6]) -> [u64; N] {
+    let mut all = [0; N];
+    for of_kind in by_kind {
+        sum(&mut all, of_kind);
+    }
+    all
+}
+
 fn sum(counts: &mut [u64], more: &[u64]) {
     for (count, more) in counts.iter_mut().zip(more) {
         *count += more;
@@ -116,11 +143,11 @@ impl Told {
     fn by(answer: &Answer) -> Told {
         let (kind, verdict, judged) = match answer {
             Answer::Check(verdict) => (0, *verdict, None),
-            Answer::Read(reading, _) => (1, reading.verdict, None),
+            Answer::Read(reading, _) => (READ, reading.verdict, None),
             Answer::Rewrite(rewriting, _) => (2, rewriting.verdict, None),
             Answer::Judge(judgement, _) => {
                 let judged = (usize::from(judgement.level), judgement.tested);
-                (3, judgement.verdict, Some(judged))
+                (JUDGE, judgement.verdict, Some(judged))
             }
             Answer::Ends(ends, _) => (4, ends.verdict, None),
             Answer::Program(line) => return Told::by_line(line),
@@ -155,14 +182,21 @@ impl fmt::Display for Summary {
             let (accepted, refused) = (self.numbers[kind][0], self.refused(kind));
             writeln!(f, "{name:8}{accepted:7} accepted{refused:7} refused")?;
         }
-        let list = |first: usize, counts: &[u64]| {
-            let each = counts.iter().enumerate().skip(first);
-            let shown: Vec<_> = each.map(|(name, had)| format!("{name}: {had}")).collect();
-            shown.join(", ")
-        };
-        writeln!(f, "refusals {}", list(1, &self.of_any_kind()))?;
-        writeln!(f, "levels   {}", list(0, &self.levels))?;
-        let [no, yes] = self.tested;
-        write!(f, "tested   yes: {yes}, no: {no}")
+        let tables = list(TABLES.iter().zip(of_any_kind(&self.tables)));
+        let judged = list(TABLES.iter().zip(self.tables[JUDGE]));
+        let refusals = list((0..).zip(of_any_kind(&self.numbers)).skip(1));
+        let levels = list((0..).zip(self.levels));
+        let tested = list(TESTED.iter().zip(self.tested).rev());
+        writeln!(f, "tables   {tables}")?;
+        writeln!(f, "judged   {judged}")?;
+        writeln!(f, "refusals {refusals}")?;
+        writeln!(f, "levels   {levels}")?;
+        write!(f, "tested   {tested}")
     }
+}
+
+/// Counts with their names, for one line.
+fn list<T: fmt::Display>(counts: impl Iterator<Item = (T, u64)>) -> String {
+    let shown: Vec<_> = counts.map(|(name, had)| format!("{name}: {had}")).collect();
+    shown.join(", ")
 }

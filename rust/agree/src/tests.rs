@@ -83,6 +83,52 @@ fn no_top(case: &Case) -> Answer {
     answer
 }
 
+/// The library, but the judge takes a risen signal for the signal itself, where it accepts.
+fn forgets_the_sample_before(case: &Case) -> Answer {
+    let answer = library_answer(case);
+    let mut forgetful = case.clone();
+    match (&mut forgetful, &answer) {
+        (Case::Judge { table, .. }, Answer::Judge(judged, _)) if judged.verdict.number == 0 => {
+            let operators = table.iter_mut().skip(6).step_by(4);
+            operators
+                .filter(|operator| **operator == RISEN)
+                .for_each(|operator| *operator = SIGNAL);
+            library_answer(&forgetful)
+        }
+        _ => answer,
+    }
+}
+
+const SIGNAL: u8 = 1;
+const RISEN: u8 = 5;
+
+/// The library, but match ends takes a suffix for a record of its own, so that its first sample has no sample before it.
+fn pairs_made_anew(case: &Case) -> Answer {
+    let mut answer = library_answer(case);
+    let mut suffix = case.clone();
+    if let (Case::Ends { samples, start, .. }, Answer::Ends(ends, _)) = (&mut suffix, &mut answer) {
+        if ends.verdict.number == 0 {
+            let dropped = std::mem::take(start);
+            samples.drain(..dropped);
+            if let Answer::Ends(anew, _) = library_answer(&suffix) {
+                (ends.mask, ends.top) = (anew.mask << dropped, anew.top);
+            }
+        }
+    }
+    answer
+}
+
+/// The library, but a rewritten table has version 1.
+fn version_not_copied(case: &Case) -> Answer {
+    let mut answer = library_answer(case);
+    if let Answer::Rewrite(rewriting, bytes) = &mut answer {
+        if rewriting.verdict.number == 0 {
+            bytes[3] = 1;
+        }
+    }
+    answer
+}
+
 /// The library, but the program says that every assertion was tested.
 fn always_tested(case: &Case) -> Answer {
     match library_answer(case) {
@@ -97,7 +143,7 @@ fn a_wrong_level_is_found_shrunk_and_printed() {
     let Case::Judge { table, samples, .. } = &difference.case else {
         panic!("this is no case of the judge: {:?}", difference.case);
     };
-    assert!(table.len() <= 18, "three nodes are enough: {table:?}");
+    assert!(table.len() <= 22, "four nodes are enough: {table:?}");
     assert!(samples.is_empty(), "no sample is needed: {samples:?}");
     assert!(text.contains("level 1"), "{text}");
     assert!(text.contains("level 2"), "{text}");
@@ -129,6 +175,26 @@ fn every_kind_of_answer_is_compared() {
 }
 
 #[test]
+fn rising_signals_and_versions_are_compared() {
+    for wrong in [forgets_the_sample_before as Side, pairs_made_anew] {
+        let (difference, text) = found(wrong);
+        let (Case::Judge { table, samples, .. } | Case::Ends { table, samples, .. }) =
+            &difference.case
+        else {
+            panic!("these answer wrong in no other case: {text}");
+        };
+        assert_eq!(table[3], 2, "{text}");
+        assert!(table.len() <= 18, "three nodes are enough: {text}");
+        assert_eq!(samples.len(), 2, "{text}");
+    }
+    let (_, text) = found(version_not_copied);
+    assert!(
+        text.contains("lent:    byte 3 is 0x1 by the library, 0x2"),
+        "{text}"
+    );
+}
+
+#[test]
 fn the_case_of_a_difference_can_be_run_alone() {
     let (seed, cases) = (found(no_top).0.seed, 1);
     let alone = Run { seed, cases }.compare(no_top, second::answer);
@@ -150,10 +216,10 @@ fn a_seed_fixes_the_cases_and_no_run_passes_on_nothing() {
     assert_eq!(summary.lacking(RUN.cases), Vec::<String>::new());
 
     let lacking = Summary::default().lacking(20_000);
-    assert_eq!(lacking.len(), 1 + 12 + 15 + 4 + 2);
+    assert_eq!(lacking.len(), 1 + 12 + 5 * 4 + 15 + 4 + 2);
     assert_eq!(lacking[0], "0 cases, not 20000 or more");
 
     let of_a_kind = 9 + 6 + 11 + 13 + 14 + 12;
     let lacking = Summary::default().lacking(USUAL);
-    assert_eq!(lacking.len(), 1 + 12 + of_a_kind + 15 + 4 + 2);
+    assert_eq!(lacking.len(), 1 + 12 + 5 * 4 + of_a_kind + 15 + 4 + 2);
 }

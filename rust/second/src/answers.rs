@@ -5,7 +5,7 @@ use crate::node::{Node, Sort};
 use crate::record::{self, MOST_SAMPLES};
 use crate::rewriting::rewritten;
 use crate::rows::{rows, tested, WORDS_PER_NODE};
-use crate::table::{self, table_bytes, MOST_NODES};
+use crate::table::{self, table_bytes, Table, MOST_NODES};
 use crate::verdict::{refuse_if, Verdict};
 use crate::words::Tail;
 
@@ -63,16 +63,16 @@ pub fn read(record: &[u8], out: &mut [u64]) -> Reading {
     }
 }
 
-/// Rewrites a table into `out`: refusals 1 to 9, 13, 15.
+/// Rewrites a table into `out`, with its version: refusals 1 to 9, 13, 15.
 pub fn rewrite(table: &[u8], out: &mut [u8]) -> Rewriting {
-    let rewritten = table::checked(table).and_then(|nodes| {
-        let rewritten = rewritten_in_limits(&nodes)?;
-        refuse_if(out.len() < 6 + 4 * rewritten.len(), 15)?;
-        Ok(rewritten)
+    let rewritten = table::checked(table).and_then(|Table { version, nodes }| {
+        let nodes = rewritten_in_limits(&nodes)?;
+        refuse_if(out.len() < 6 + 4 * nodes.len(), 15)?;
+        Ok(Table { version, nodes })
     });
     match rewritten {
-        Ok(nodes) => {
-            let bytes = table_bytes(&nodes);
+        Ok(Table { version, nodes }) => {
+            let bytes = table_bytes(version, &nodes);
             out[..bytes.len()].copy_from_slice(&bytes);
             let (verdict, count) = (Verdict::ACCEPTED, nodes.len());
             Rewriting { verdict, count }
@@ -152,7 +152,7 @@ fn judge_table(table: &[u8]) -> Result<(Vec<Node>, Vec<Node>), Verdict> {
 
 /// A table with a root of the sort asked for, and its rewriting.
 fn table_with_root(table: &[u8], sort: Sort) -> Result<(Vec<Node>, Vec<Node>), Verdict> {
-    let nodes = table::checked(table)?;
+    let nodes = table::checked(table)?.nodes;
     let right = nodes.last().map(|root| root.sort()) == Some(sort);
     refuse_if(!right, 12)?;
     let rewritten = rewritten_in_limits(&nodes)?;

@@ -2,17 +2,22 @@
 
 use crate::node::{Node, Sort, OPERATORS};
 use crate::random::Random;
-use crate::table::{readable, table_bytes};
+use crate::table::{readable, table_bytes, Table};
+
+/// What a header may get as its version. 257, 258 and 512 have a byte 1 or 2
+/// but are neither; 2 is no version of a record.
+const VERSIONS: [u16; 6] = [0, 2, 3, 257, 258, 512];
 
 /// Damages a table once, in one of many ways.
 pub fn damage_table(random: &mut Random, bytes: &mut Vec<u8>) {
-    match random.weighted(&[16, 14, 30, 10, 14, 10, 4]) {
+    match random.weighted(&[22, 18, 30, 12, 20, 14, 20, 4]) {
         0 => damage_bytes(random, bytes),
         1 => damage_header(random, bytes),
         2 => damage_node(random, bytes),
         3 => move_operand(random, bytes),
         4 => make_hollow(random, bytes),
         5 => make_boolean_root(random, bytes),
+        6 => damage_signal(random, bytes),
         _ => *bytes = random_bytes(random, 40),
     }
 }
@@ -39,17 +44,22 @@ pub fn damage_header(random: &mut Random, bytes: &mut Vec<u8>) {
     if bytes.len() < 6 {
         return;
     }
-    match random.below(6) {
-        0 => bytes[random.below(3)] = random.pick(b"SVTWsvtw\0"),
-        1 => bytes[3 + random.below(2)] = random.pick(&[0, 1, 2, 255]),
-        2 => bytes[5] = random.pick(&[0, 120, 121, 63, 64, 255]),
-        3 => bytes[5] = random.next() as u8,
-        4 => bytes[5] = bytes[5].wrapping_add(random.pick(&[1, 255])),
+    match random.below(9) {
+        0 | 1 => bytes[random.below(3)] = random.pick(b"SVTWsvtw\0"),
+        2..=4 => set_version(bytes, random.pick(&VERSIONS)),
+        5 => bytes[5] = random.pick(&[0, 120, 121, 63, 64, 255]),
+        6 => bytes[5] = random.next() as u8,
+        7 => bytes[5] = bytes[5].wrapping_add(random.pick(&[1, 255])),
         _ => {
             bytes[5] = random.pick(&[0, 121, 130, 255]);
             bytes.resize(6 + 4 * usize::from(bytes[5]), 0);
         }
     }
+}
+
+/// Changes the version of a header.
+fn set_version(bytes: &mut [u8], version: u16) {
+    bytes[3..5].copy_from_slice(&version.to_le_bytes());
 }
 
 /// Some random bytes, often with a good beginning.
@@ -58,8 +68,8 @@ fn random_bytes(random: &mut Random, most: usize) -> Vec<u8> {
         .map(|_| random.next() as u8)
         .collect();
     if random.percent(50) {
-        let mark = [b'S', b'V', b'T', 1, 0];
-        for (byte, good) in bytes.iter_mut().zip(mark) {
+        let good_start = [b'S', b'V', b'T', random.pick(&[1, 2]), 0];
+        for (byte, good) in bytes.iter_mut().zip(good_start) {
             *byte = good;
         }
     }
@@ -98,9 +108,35 @@ fn damage_node(random: &mut Random, bytes: &mut Vec<u8>) {
 /// Gives a constant or a signal a number just too large.
 fn spoil_number(random: &mut Random, bytes: &mut [u8]) {
     for node in bytes[6..].chunks_exact_mut(4) {
-        if node[0] <= 1 && random.percent(50) {
-            node[1] = [2, 64][usize::from(node[0])];
+        let too_large = match node[0] {
+            0 => 2,
+            1 | 5 | 6 => 64,
+            _ => continue,
+        };
+        if random.percent(50) {
+            node[1] = too_large;
             return;
+        }
+    }
+}
+
+/// Damages a node that names a signal, or makes it risen or fallen in version 1,
+/// where there is no such node.
+fn damage_signal(random: &mut Random, bytes: &mut [u8]) {
+    let nodes = (6..bytes.len().saturating_sub(3)).step_by(4);
+    let signals: Vec<usize> = nodes.filter(|&at| matches!(bytes[at], 1 | 5 | 6)).collect();
+    if signals.is_empty() {
+        return;
+    }
+    let at = random.pick(&signals);
+    match random.below(6) {
+        0 => set_version(bytes, 1),
+        1 => bytes[at] = random.between(7, 15) as u8,
+        2 => bytes[at + 1] = random.pick(&[64, 65, 128, 255]),
+        3 => bytes[at + random.between(2, 3)] = 1 << random.below(8),
+        _ => {
+            set_version(bytes, 1);
+            bytes[at] = random.pick(&[5, 6]);
         }
     }
 }
@@ -120,7 +156,9 @@ fn double_node(bytes: &mut Vec<u8>, at: usize) {
 /// Points one operand to another node of the same sort, so that a node is used
 /// twice and another never.
 fn move_operand(random: &mut Random, bytes: &mut [u8]) {
-    let Some(nodes) = readable(bytes) else { return };
+    let Some(Table { nodes, .. }) = readable(bytes) else {
+        return;
+    };
     let mut moves = Vec::new();
     for (index, node) in nodes.iter().enumerate() {
         let (_, x, _) = node.parts();
@@ -141,7 +179,9 @@ fn move_operand(random: &mut Random, bytes: &mut [u8]) {
 
 /// Puts `[*0]` over the sequence of a strong, weak or `|->`.
 fn make_hollow(random: &mut Random, bytes: &mut Vec<u8>) {
-    let Some(nodes) = readable(bytes) else { return };
+    let Some(Table { version, nodes }) = readable(bytes) else {
+        return;
+    };
     let sequence = |node: &Node| match *node {
         Node::Strong(r) | Node::Weak(r) | Node::Implies(r, _) => Some(r),
         _ => None,
@@ -151,7 +191,7 @@ fn make_hollow(random: &mut Random, bytes: &mut Vec<u8>) {
         return;
     }
     let r = random.pick(&sequences);
-    *bytes = table_bytes(&with_node_above(&nodes, r, Node::Empty(r)));
+    *bytes = table_bytes(version, &with_node_above(&nodes, r, Node::Empty(r)));
 }
 
 /// The table with a new node right after node r that takes r's place.
@@ -165,15 +205,16 @@ fn with_node_above(nodes: &[Node], r: usize, above: Node) -> Vec<Node> {
 
 /// Keeps the booleans only, or puts one more boolean at the end.
 fn make_boolean_root(random: &mut Random, bytes: &mut Vec<u8>) {
-    let Some(nodes) = readable(bytes) else { return };
+    let Some(Table { version, nodes }) = readable(bytes) else {
+        return;
+    };
     let mut kept: Vec<Node> = Vec::new();
     if random.percent(80) {
         let leaves = nodes.iter().filter(|node| node.sort() == Sort::Boolean);
-        let is_leaf = |node: &&Node| matches!(node, Node::Signal(_) | Node::Constant(_));
-        kept.extend(leaves.filter(is_leaf));
+        kept.extend(leaves.filter(|node| node.operands().count() == 0));
     } else if nodes.len() < 120 {
         kept.extend(nodes);
     }
     kept.push(Node::Constant(1));
-    *bytes = table_bytes(&kept);
+    *bytes = table_bytes(version, &kept);
 }

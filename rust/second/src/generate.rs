@@ -65,7 +65,7 @@ fn made(random: &mut Random, root: Sort) -> Made {
     let mut nodes = grown(random, &plan);
     if size_class == 3 {
         let target = random.between(112, 126).min(MOST_NODES);
-        nodes = filled(random, nodes, target);
+        nodes = filled(random, &plan, nodes, target);
     }
     made_of(&nodes, plan)
 }
@@ -78,7 +78,7 @@ fn made_too_large(random: &mut Random, root: Sort) -> Made {
         plan.clocks = random.between(10, 60);
         let mut nodes = grown_once(random, &plan, size);
         if nodes.len() < MOST_NODES && rewritten(&nodes).len() > nodes.len() {
-            nodes = filled(random, nodes, MOST_NODES + 1);
+            nodes = filled(random, &plan, nodes, MOST_NODES + 1);
         }
         if nodes.len() <= MOST_NODES && rewritten(&nodes).len() > MOST_NODES {
             return made_of(&nodes, plan);
@@ -90,7 +90,7 @@ fn made_too_large(random: &mut Random, root: Sort) -> Made {
 /// The bytes of a table and what goes with it.
 fn made_of(nodes: &[Node], plan: Plan) -> Made {
     Made {
-        bytes: table_bytes(nodes),
+        bytes: table_bytes(plan.version, nodes),
         signals: plan.signals,
         m: rewritten(nodes).len(),
     }
@@ -108,11 +108,15 @@ fn plan(random: &mut Random, root: Sort, size: usize) -> Plan {
         Shape::Broad,
         Shape::Broad,
     ];
+    let version = random.pick(&[1, 2]);
+    let edges = random.pick(&[0, 40, 60, 90]);
     Plan {
+        version,
         root,
         size,
         signals: signals(random),
-        clocks: random.pick(&[0, 0, 4, 10, 25]),
+        edges: if version == 1 { 0 } else { edges },
+        clocks: random.pick(&[0, 0, 5, 12, 25]),
         empties: random.pick(&[0, 3, 8, 15]),
         shape: random.pick(&shapes),
         mixed_order: random.percent(40),
@@ -122,19 +126,19 @@ fn plan(random: &mut Random, root: Sort, size: usize) -> Plan {
 
 /// A few signals, so that things match.
 fn signals(random: &mut Random) -> Vec<usize> {
-    match random.below(8) {
+    match random.below(9) {
         0 => vec![0],
         1 | 2 => vec![0, 1],
         3 | 4 => vec![0, 1, 2],
-        5 => vec![0, 63],
-        6 => vec![0, 1, 2, 3, 4],
+        5 | 6 => vec![0, 63],
+        7 => vec![0, 1, 2, 3, 4],
         _ => (0..3).map(|_| random.below(64)).collect(),
     }
 }
 
 /// How many samples a good record has: mostly few.
 fn record_length(random: &mut Random) -> usize {
-    match random.weighted(&[10, 56, 20, 8, 6]) {
+    match random.weighted(&[9, 46, 31, 8, 6]) {
         0 => 0,
         1 => random.between(1, 3),
         2 => random.between(3, 14),
@@ -143,24 +147,52 @@ fn record_length(random: &mut Random) -> usize {
     }
 }
 
-/// Samples over a few signals, thin or mostly dense, with runs or noise at times.
+/// Samples over a few signals, with runs or noise at times.
 fn samples(random: &mut Random, n: usize, signals: &[usize]) -> Vec<u64> {
-    let density = random.pick(&[10, 30, 50, 70, 90, 95, 100]);
+    let course = course(random);
     let repeats = random.pick(&[0, 0, 30, 70]);
     let noisy = random.percent(10);
     let mut samples: Vec<u64> = Vec::new();
     for _ in 0..n {
+        let before = samples.last().copied();
         let mut sample = if noisy { random.next() } else { 0 };
         for &signal in signals {
-            let set = u64::from(random.percent(density));
+            let was_set = before.unwrap_or(0) >> signal & 1 == 1;
+            let set = u64::from(set_next(random, &course, was_set));
             sample = sample & !(1 << signal) | set << signal;
         }
-        match samples.last() {
-            Some(&last) if random.percent(repeats) => samples.push(last),
+        match before {
+            Some(before) if random.percent(repeats) => samples.push(before),
             _ => samples.push(sample),
         }
     }
     samples
+}
+
+/// What the signals of a record do from sample to sample, in parts of a hundred.
+enum Course {
+    /// Each is set so often, whatever it was.
+    Set(usize),
+    /// Each changes so often: seldom, and it stays high or low over neighbouring
+    /// samples, or mostly, and it rises and falls by turns.
+    Changes(usize),
+}
+
+/// Thin or mostly dense, steady or restless.
+fn course(random: &mut Random) -> Course {
+    if random.percent(60) {
+        Course::Set(random.pick(&[10, 30, 50, 70, 90, 95, 100]))
+    } else {
+        Course::Changes(random.pick(&[20, 35, 60, 85]))
+    }
+}
+
+/// Whether a signal is set in the next sample.
+fn set_next(random: &mut Random, course: &Course, was_set: bool) -> bool {
+    match *course {
+        Course::Set(share) => random.percent(share),
+        Course::Changes(share) => was_set != random.percent(share),
+    }
 }
 
 /// A good record for a table.

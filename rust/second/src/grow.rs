@@ -20,10 +20,14 @@ pub enum Shape {
 
 /// What kind of table is wanted.
 pub struct Plan {
+    pub version: u16,
     pub root: Sort,
     /// Roughly how many sequence and property nodes.
     pub size: usize,
     pub signals: Vec<usize>,
+    /// How many of a hundred nodes that name a signal ask whether it has risen
+    /// or fallen: 0 in version 1.
+    pub edges: usize,
     /// How often clock nodes and `[*0]` come, against about 100 for all others.
     pub clocks: usize,
     pub empties: usize,
@@ -71,7 +75,7 @@ pub fn grown_once(random: &mut Random, plan: &Plan, size: usize) -> Vec<Node> {
     }
     let nodes = grower.nodes;
     let nodes = ordered(random, &nodes, root, plan.mixed_order);
-    without_hollow(nodes)
+    without_hollow(plan.version, nodes)
 }
 
 impl Grower<'_> {
@@ -96,7 +100,10 @@ impl Grower<'_> {
             _ => self.random.weighted(&[60, 8, 14, 9, 9]),
         };
         let node = match operator {
-            0 => Node::Signal(self.random.pick(&self.plan.signals)),
+            0 => {
+                let signal = self.random.pick(&self.plan.signals);
+                signal_node(self.random, self.plan, signal)
+            }
             1 => Node::Constant(self.random.below(2)),
             2 => Node::Not(self.new_boolean(levels - 1)),
             3 => Node::And(self.boolean(), self.new_boolean(levels - 1)),
@@ -186,6 +193,14 @@ impl Grower<'_> {
     }
 }
 
+/// A node that names a signal: the signal itself, or that it has risen or fallen.
+fn signal_node(random: &mut Random, plan: &Plan, signal: usize) -> Node {
+    if !random.percent(plan.edges) {
+        return Node::Signal(signal);
+    }
+    random.pick(&[Node::Risen(signal), Node::Fallen(signal)])
+}
+
 /// The nodes in an order that has operands first and the root last: as they
 /// are, or mixed.
 fn ordered(random: &mut Random, nodes: &[Node], root: usize, mixed: bool) -> Vec<Node> {
@@ -213,12 +228,12 @@ fn ordered(random: &mut Random, nodes: &[Node], root: usize, mixed: bool) -> Vec
 
 /// Turns `[*0]` into `[*1:$]` under strong, weak and `|->` until no sequence
 /// there is hollow.
-fn without_hollow(mut nodes: Vec<Node>) -> Vec<Node> {
+fn without_hollow(version: u16, mut nodes: Vec<Node>) -> Vec<Node> {
     if nodes.len() > MOST_NODES {
         return nodes;
     }
     loop {
-        let hollow = match table::checked(&table_bytes(&nodes)) {
+        let hollow = match table::checked(&table_bytes(version, &nodes)) {
             Err(verdict) if verdict.number == 9 => verdict.node,
             _ => return nodes,
         };
@@ -252,11 +267,12 @@ fn sequences_below(nodes: &[Node], top: usize) -> Vec<usize> {
 }
 
 /// Adds nodes, each counting one in the rewriting, up to a rewritten count.
-pub fn filled(random: &mut Random, mut nodes: Vec<Node>, target: usize) -> Vec<Node> {
+pub fn filled(random: &mut Random, plan: &Plan, mut nodes: Vec<Node>, target: usize) -> Vec<Node> {
     let missing = target.saturating_sub(rewritten(&nodes).len());
     for _ in 0..missing.min(MOST_NODES.saturating_sub(nodes.len())) {
         if random.percent(50) {
-            nodes = with_boolean_in_front(&nodes, Node::Signal(random.below(64)));
+            let signal = random.below(64);
+            nodes = with_boolean_in_front(&nodes, signal_node(random, plan, signal));
             continue;
         }
         let root = nodes.len() - 1;

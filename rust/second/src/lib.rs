@@ -1,7 +1,8 @@
 //! A second opinion on clocked assertions over sampled records.
 //!
-//! Every answer follows the definitions of document 01 clause by clause, on
-//! explicit letters. It is slow on purpose and shares nothing with the product.
+//! Every answer follows the definitions of document 01, with request 2 of
+//! document 02, clause by clause, on explicit letters. It is slow on purpose
+//! and shares nothing with the product.
 
 #![forbid(unsafe_code)]
 

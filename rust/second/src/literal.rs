@@ -4,7 +4,20 @@
 //! remembered. It serves only tables and records that are quite small.
 
 use crate::node::Node;
-use crate::words::{Letter, Tail};
+use crate::words::{Letter, Pair, Tail};
+
+/// The letters of a record: letter i is sample i - 1, 0 where there is none,
+/// and sample i.
+pub fn letters(record: &[u64]) -> Vec<Letter> {
+    let sample = |i: usize| record.get(i).copied().unwrap_or(0);
+    let letter = |i: usize| {
+        Letter::Pair(Pair {
+            before: sample(i.wrapping_sub(1)),
+            sample: sample(i),
+        })
+    };
+    (0..record.len()).map(letter).collect()
+}
 
 /// A word: some letters, then the tail for ever.
 #[derive(Clone)]
@@ -15,7 +28,7 @@ pub struct Word {
 
 impl Word {
     /// The first k letters, if the word has as many.
-    fn prefix(&self, k: usize) -> Option<Vec<Letter>> {
+    pub fn prefix(&self, k: usize) -> Option<Vec<Letter>> {
         let mut letters = self.letters.clone();
         while letters.len() < k {
             letters.push(self.tail.letter()?);
@@ -25,7 +38,7 @@ impl Word {
     }
 
     /// The word without its first i letters.
-    fn suffix(&self, i: usize) -> Word {
+    pub fn suffix(&self, i: usize) -> Word {
         let letters = self.letters.iter().skip(i).copied().collect();
         let tail = self.tail;
         Word { letters, tail }
@@ -43,7 +56,7 @@ impl Word {
 /// The letter with ⊤ and ⊥ swapped.
 fn bar(letter: Letter) -> Letter {
     match letter {
-        Letter::Sample(sample) => Letter::Sample(sample),
+        Letter::Pair(pair) => Letter::Pair(pair),
         Letter::Top => Letter::Bottom,
         Letter::Bottom => Letter::Top,
     }
@@ -59,7 +72,7 @@ impl Literal<'_> {
     /// Whether a letter satisfies a boolean.
     fn letter(&self, b: usize, letter: Letter) -> bool {
         match letter {
-            Letter::Sample(sample) => self.sample(b, sample),
+            Letter::Pair(pair) => self.pair(b, pair),
             Letter::Top => true,
             Letter::Bottom => false,
         }
@@ -68,20 +81,23 @@ impl Literal<'_> {
     /// Whether a letter satisfies not c.
     fn letter_not(&self, c: usize, letter: Letter) -> bool {
         match letter {
-            Letter::Sample(sample) => !self.sample(c, sample),
+            Letter::Pair(pair) => !self.pair(c, pair),
             Letter::Top => true,
             Letter::Bottom => false,
         }
     }
 
-    /// The value of a boolean on a sample.
-    fn sample(&self, b: usize, sample: u64) -> bool {
+    /// The value of a boolean on a pair.
+    fn pair(&self, b: usize, pair: Pair) -> bool {
+        let Pair { before, sample } = pair;
         match self.table[b] {
             Node::Constant(x) => x == 1,
             Node::Signal(s) => sample & 1 << s != 0,
-            Node::Not(x) => !self.sample(x, sample),
-            Node::And(x, y) => self.sample(x, sample) && self.sample(y, sample),
-            Node::Or(x, y) => self.sample(x, sample) || self.sample(y, sample),
+            Node::Risen(s) => sample & !before & 1 << s != 0,
+            Node::Fallen(s) => before & !sample & 1 << s != 0,
+            Node::Not(x) => !self.pair(x, pair),
+            Node::And(x, y) => self.pair(x, pair) && self.pair(y, pair),
+            Node::Or(x, y) => self.pair(x, pair) || self.pair(y, pair),
             _ => unreachable!("only booleans are asked for here"),
         }
     }
@@ -171,7 +187,7 @@ impl Literal<'_> {
             return w.prefix(1).is_none() || self.satisfies(p, None, &w.suffix(1));
         };
         let is_tick = |&at: &usize| match w.letters[at] {
-            Letter::Sample(sample) => self.sample(c, sample),
+            Letter::Pair(pair) => self.pair(c, pair),
             _ => false,
         };
         let ticks: Vec<usize> = (0..w.letters.len()).filter(is_tick).collect();

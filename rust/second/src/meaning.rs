@@ -2,14 +2,14 @@
 
 use crate::matching::{unrolled_letters, Ends, Matching};
 use crate::node::Node;
-use crate::words::{cut, whole, Booleans, Letter, Tail};
+use crate::words::{cut, pairs, whole, Booleans, Letter, Pair, Tail};
 use std::collections::HashMap;
 use std::rc::Rc;
 
 /// Which row of letters is meant.
 #[derive(Clone, Copy, PartialEq, Eq, Hash)]
 enum Name {
-    /// The samples, then the tail.
+    /// The pairs of the record, then the tail.
     Whole(Tail),
     /// The first so many letters of that word, then ⊤ for ever.
     Cut(usize, Tail),
@@ -21,7 +21,7 @@ enum Name {
 /// every position in the tail, since all suffixes from n on are the same.
 pub struct Meaning<'a> {
     table: &'a [Node],
-    samples: &'a [u64],
+    pairs: Vec<Pair>,
     booleans: Rc<Booleans>,
     extra: usize,
     matchings: HashMap<Name, Matching<'a>>,
@@ -30,11 +30,12 @@ pub struct Meaning<'a> {
 
 impl<'a> Meaning<'a> {
     /// Nothing is worked out before it is asked for.
-    pub fn new(table: &'a [Node], samples: &'a [u64]) -> Meaning<'a> {
+    pub fn new(table: &'a [Node], samples: &[u64]) -> Meaning<'a> {
+        let pairs = pairs(samples);
         Meaning {
             table,
-            samples,
-            booleans: Rc::new(Booleans::new(table, samples)),
+            booleans: Rc::new(Booleans::new(table, &pairs)),
+            pairs,
             extra: unrolled_letters(table),
             matchings: HashMap::new(),
             known: HashMap::new(),
@@ -48,15 +49,14 @@ impl<'a> Meaning<'a> {
         self
     }
 
-    /// The ends of the matches on the samples followed by the tail.
+    /// The ends of the matches on the pairs followed by the tail.
     pub fn ends(&mut self, node: usize, clock: Option<usize>, start: usize, tail: Tail) -> Ends {
         self.named(Name::Whole(tail)).ends(node, clock, start)
     }
 
-    /// Whether sample i satisfies a boolean.
+    /// Whether pair i satisfies a boolean.
     pub fn boolean(&self, node: usize, i: usize) -> bool {
-        self.booleans
-            .satisfies(Letter::Sample(self.samples[i]), node)
+        self.booleans.satisfies(Letter::Pair(self.pairs[i]), node)
     }
 
     /// Whether the word from a position on satisfies a property under a clock.
@@ -99,8 +99,8 @@ impl<'a> Meaning<'a> {
     /// they give the same word again, with ⊥ no match reaches past the first ⊥.
     fn weak(&mut self, r: usize, clock: Option<usize>, i: usize, tail: Tail) -> bool {
         let longest = match tail {
-            Tail::Nothing => self.samples.len(),
-            Tail::Top | Tail::Bottom => self.samples.len() + 1,
+            Tail::Nothing => self.pairs.len(),
+            Tail::Top | Tail::Bottom => self.pairs.len() + 1,
         };
         for cut in i + 1..=longest {
             let ends = self.named(self.cut_name(cut, tail)).ends(r, clock, i);
@@ -133,8 +133,8 @@ impl<'a> Meaning<'a> {
     /// nexttime P under c: P at the second of the first two samples with c,
     /// else no on a ⊥ tail and yes otherwise.
     fn nexttime_clocked(&mut self, p: usize, c: usize, i: usize, tail: Tail) -> bool {
-        let samples = i..self.samples.len();
-        let second = samples.filter(|&at| self.boolean(c, at)).nth(1);
+        let positions = i..self.pairs.len();
+        let second = positions.filter(|&at| self.boolean(c, at)).nth(1);
         match second {
             Some(at) => self.satisfies(p, Some(c), at, tail),
             None => tail != Tail::Bottom,
@@ -144,7 +144,7 @@ impl<'a> Meaning<'a> {
     /// P until Q: some position has Q with P at each earlier one, or P is at
     /// every position. Going through the positions finds the first Q.
     fn until(&mut self, p: usize, q: usize, clock: Option<usize>, i: usize, tail: Tail) -> bool {
-        for at in i..=self.samples.len() {
+        for at in i..=self.pairs.len() {
             let Some(letter) = self.letter(at, tail) else {
                 return true;
             };
@@ -166,7 +166,7 @@ impl<'a> Meaning<'a> {
     /// Under a clock c, P is asked only where the letter of the bar satisfies c.
     fn asks_p(&self, letter: Letter, clock: Option<usize>) -> bool {
         let barred = match letter {
-            Letter::Sample(sample) => Letter::Sample(sample),
+            Letter::Pair(pair) => Letter::Pair(pair),
             Letter::Top => Letter::Bottom,
             Letter::Bottom => Letter::Top,
         };
@@ -175,20 +175,20 @@ impl<'a> Meaning<'a> {
 
     /// The letter at a position, if the word is that long.
     fn letter(&self, i: usize, tail: Tail) -> Option<Letter> {
-        match self.samples.get(i) {
-            Some(&sample) => Some(Letter::Sample(sample)),
+        match self.pairs.get(i) {
+            Some(&pair) => Some(Letter::Pair(pair)),
             None => tail.letter(),
         }
     }
 
     /// Position n stands for all later ones.
     fn position(&self, i: usize) -> usize {
-        i.min(self.samples.len())
+        i.min(self.pairs.len())
     }
 
-    /// Cuts inside the samples do not depend on the tail.
+    /// Cuts inside the record do not depend on the tail.
     fn cut_name(&self, end: usize, tail: Tail) -> Name {
-        if end <= self.samples.len() {
+        if end <= self.pairs.len() {
             Name::Cut(end, Tail::Nothing)
         } else {
             Name::Cut(end, tail)
@@ -197,12 +197,12 @@ impl<'a> Meaning<'a> {
 
     /// The matching on a row of letters, made when first asked for.
     fn named(&mut self, name: Name) -> &mut Matching<'a> {
-        let (table, samples, extra) = (self.table, self.samples, self.extra);
-        let booleans = &self.booleans;
+        let (table, extra) = (self.table, self.extra);
+        let (pairs, booleans) = (&self.pairs, &self.booleans);
         self.matchings.entry(name).or_insert_with(|| {
             let letters = match name {
-                Name::Whole(tail) => whole(samples, tail, extra),
-                Name::Cut(end, tail) => cut(samples, tail, end, extra),
+                Name::Whole(tail) => whole(pairs, tail, extra),
+                Name::Cut(end, tail) => cut(pairs, tail, end, extra),
             };
             Matching::new(table, Rc::clone(booleans), letters)
         })

@@ -24,6 +24,10 @@ pub enum Place {
 pub enum Node {
     Constant(usize),
     Signal(usize),
+    /// The signal has risen since the sample before.
+    Risen(usize),
+    /// The signal has fallen since the sample before.
+    Fallen(usize),
     Not(usize),
     And(usize, usize),
     Or(usize, usize),
@@ -58,15 +62,23 @@ use Place::{Number, Operand, Unused};
 use Sort::{Boolean, Property, Sequence};
 
 /// Every operator number there is.
-pub const OPERATORS: [u8; 21] = [
-    0, 1, 2, 3, 4, 16, 17, 18, 19, 20, 21, 22, 32, 33, 34, 35, 36, 37, 38, 39, 40,
+pub const OPERATORS: [u8; 23] = [
+    0, 1, 2, 3, 4, 5, 6, 16, 17, 18, 19, 20, 21, 22, 32, 33, 34, 35, 36, 37, 38, 39, 40,
 ];
+
+/// Whether tables of a version may have an operator: 5 and 6 came with version 2.
+pub fn known_in(version: u16, operator: u8) -> bool {
+    match operator {
+        5 | 6 => version >= 2,
+        _ => true,
+    }
+}
 
 /// What x and y of an operator hold, or none for an unknown operator.
 pub fn places(operator: u8) -> Option<[Place; 2]> {
     let places = match operator {
         0 => [Number(1), Unused],
-        1 => [Number(63), Unused],
+        1 | 5 | 6 => [Number(63), Unused],
         2 => [Operand(Boolean), Unused],
         3 | 4 => [Operand(Boolean), Operand(Boolean)],
         16 => [Operand(Boolean), Unused],
@@ -92,6 +104,8 @@ impl Node {
             2 => Node::Not(x),
             3 => Node::And(x, y),
             4 => Node::Or(x, y),
+            5 => Node::Risen(x),
+            6 => Node::Fallen(x),
             16 => Node::Letter(x),
             17 => Node::Then(x, y),
             18 => Node::Fuse(x, y),
@@ -121,6 +135,8 @@ impl Node {
             Node::Not(x) => (2, x, 0),
             Node::And(x, y) => (3, x, y),
             Node::Or(x, y) => (4, x, y),
+            Node::Risen(x) => (5, x, 0),
+            Node::Fallen(x) => (6, x, 0),
             Node::Letter(x) => (16, x, 0),
             Node::Then(x, y) => (17, x, y),
             Node::Fuse(x, y) => (18, x, y),
@@ -143,7 +159,7 @@ impl Node {
     /// The sort of the node, fixed by its operator.
     pub fn sort(self) -> Sort {
         match self.parts().0 {
-            0..=4 => Boolean,
+            0..=6 => Boolean,
             16..=22 => Sequence,
             _ => Property,
         }

@@ -24,7 +24,7 @@ pub fn rows(table: &[Node], samples: &[u64]) -> Vec<u64> {
     rows
 }
 
-/// Word 0 has bit i where sample i satisfies the boolean.
+/// Word 0 has bit i where letter i satisfies the boolean.
 fn boolean_row(meaning: &Meaning, node: usize, n: usize, row: &mut [u64]) {
     for i in 0..n {
         row[0] |= bit(i, meaning.boolean(node, i));

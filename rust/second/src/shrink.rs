@@ -5,7 +5,7 @@ use crate::node::{Node, Sort};
 use crate::record::record_bytes;
 use crate::rewriting::rewritten;
 use crate::rows::WORDS_PER_NODE;
-use crate::table::{readable, table_bytes};
+use crate::table::{readable, table_bytes, Table};
 
 /// The smallest case found that still differs: greedy, until nothing smaller does.
 pub fn shrink(case: Case, differs: &mut dyn FnMut(&Case) -> bool) -> Case {
@@ -118,7 +118,13 @@ fn judge_candidates(table: &[u8], samples: &[u64], words: usize) -> Vec<Case> {
         cases.push(case(table.to_vec(), fewer, words));
     }
     for smaller in tables(table) {
-        cases.push(case(smaller, samples.to_vec(), words));
+        cases.push(case(smaller.clone(), samples.to_vec(), words));
+        // What a nexttime passes over goes with it.
+        cases.push(case(
+            smaller,
+            samples.iter().skip(1).copied().collect(),
+            words,
+        ));
     }
     for words in sizes(words, WORDS_PER_NODE * rewritten_count(table)) {
         cases.push(case(table.to_vec(), samples.to_vec(), words));
@@ -154,7 +160,7 @@ fn ends_candidates(table: &[u8], samples: &[u64], start: usize, words: usize) ->
 
 /// The rewritten count of a table, 0 for one that cannot be read.
 fn rewritten_count(table: &[u8]) -> usize {
-    readable(table).map_or(0, |nodes| rewritten(&nodes).len())
+    readable(table).map_or(0, |table| rewritten(&table.nodes).len())
 }
 
 /// Smaller numbers: none, around what is needed, half, and one less.
@@ -230,22 +236,30 @@ fn without_stretches<T: Clone>(items: &[T]) -> Vec<Vec<T>> {
     lists
 }
 
-/// Smaller tables: simpler nodes, fewer nodes, or plain bytes.
+/// Smaller tables: simpler nodes, fewer nodes, version 1, or plain bytes.
 fn tables(table: &[u8]) -> Vec<Vec<u8>> {
-    let mut smaller = Vec::new();
-    if let Some(nodes) = readable(table) {
-        for node in 0..nodes.len() {
-            smaller.extend(without_node(&nodes, node));
-            smaller.extend(with_node_below(&nodes, node));
-        }
-        smaller.push(reached(&nodes));
-        for node in 0..nodes.len() {
-            smaller.extend(with_simpler_node(&nodes, node));
-        }
+    let mut tables = Vec::new();
+    if let Some(Table { version, nodes }) = readable(table) {
+        let smaller = node_lists(&nodes);
+        tables.extend(smaller.iter().map(|nodes| table_bytes(version, nodes)));
+        tables.push(table_bytes(1, &nodes));
     }
-    let mut tables: Vec<Vec<u8>> = smaller.iter().map(|nodes| table_bytes(nodes)).collect();
     tables.extend(byte_strings(table));
     tables
+}
+
+/// Fewer nodes, or simpler ones.
+fn node_lists(nodes: &[Node]) -> Vec<Vec<Node>> {
+    let mut smaller = Vec::new();
+    for node in 0..nodes.len() {
+        smaller.extend(without_node(nodes, node));
+        smaller.extend(with_node_below(nodes, node));
+    }
+    smaller.push(reached(nodes));
+    for node in 0..nodes.len() {
+        smaller.extend(with_simpler_node(nodes, node));
+    }
+    smaller
 }
 
 /// The table without a node that no other node uses, renumbered.
@@ -296,10 +310,10 @@ fn first_property(nodes: &[Node], node: usize) -> Option<usize> {
     operands.find(|&operand| nodes[operand].sort() == Sort::Property)
 }
 
-/// Tables with a boolean made a constant or signal 0, or a sequence a letter.
+/// Tables with a boolean made a constant or a signal, or a sequence a letter.
 fn with_simpler_node(nodes: &[Node], node: usize) -> Vec<Vec<Node>> {
     let simpler = match nodes[node].sort() {
-        Sort::Boolean => vec![Node::Constant(0), Node::Constant(1), Node::Signal(0)],
+        Sort::Boolean => simpler_booleans(nodes[node]),
         Sort::Sequence => {
             let is_boolean = |b: &usize| nodes[*b].sort() == Sort::Boolean;
             (0..node).filter(is_boolean).map(Node::Letter).collect()
@@ -312,6 +326,16 @@ fn with_simpler_node(nodes: &[Node], node: usize) -> Vec<Vec<Node>> {
         [reached(&changed), changed]
     };
     simpler.into_iter().flat_map(changed).collect()
+}
+
+/// Constants and signals in place of a boolean; of one that asks whether a
+/// signal has risen or fallen, that signal too.
+fn simpler_booleans(boolean: Node) -> Vec<Node> {
+    let mut simpler = vec![Node::Constant(0), Node::Constant(1), Node::Signal(0)];
+    if let Node::Risen(signal) | Node::Fallen(signal) = boolean {
+        simpler.push(Node::Signal(signal));
+    }
+    simpler
 }
 
 /// The nodes that the root needs, renumbered.

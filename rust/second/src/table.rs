@@ -1,7 +1,7 @@
 //! Reading a table from bytes, with refusals 1 to 9 in their order.
 
 use crate::matching::{unrolled_letters, Matching};
-use crate::node::{clocks, places, Node, Place, Sort};
+use crate::node::{clocks, known_in, places, Node, Place, Sort};
 use crate::verdict::{refuse_if, Verdict};
 use crate::words::{whole, Booleans, Tail};
 use std::rc::Rc;
@@ -9,43 +9,51 @@ use std::rc::Rc;
 /// The most nodes a table may have, before and after rewriting.
 pub const MOST_NODES: usize = 120;
 
-/// The nodes of a table that passes all nine refusals.
-pub fn checked(bytes: &[u8]) -> Result<Vec<Node>, Verdict> {
-    check_header(bytes)?;
+/// A table as it was read.
+pub struct Table {
+    pub version: u16,
+    pub nodes: Vec<Node>,
+}
+
+/// The table, if it passes all nine refusals.
+pub fn checked(bytes: &[u8]) -> Result<Table, Verdict> {
     let table = decoded(bytes)?;
-    check_places(&table)?;
-    let root_is_boolean = table.last().map(|root| root.sort()) == Some(Sort::Boolean);
+    check_places(&table.nodes)?;
+    let root_is_boolean = table.nodes.last().map(|root| root.sort()) == Some(Sort::Boolean);
     refuse_if(root_is_boolean, 8)?;
-    check_hollow(&table)?;
+    check_hollow(&table.nodes)?;
     Ok(table)
 }
 
-/// Refusals 1 to 5: length, mark, version and count.
-fn check_header(bytes: &[u8]) -> Result<(), Verdict> {
+/// Refusals 1 to 5: length, mark, version and count. Gives the version.
+fn check_header(bytes: &[u8]) -> Result<u16, Verdict> {
     refuse_if(bytes.len() < 6, 1)?;
     refuse_if(bytes[..3] != *b"SVT", 2)?;
-    refuse_if(bytes[3..5] != [1, 0], 3)?;
+    let version = u16::from_le_bytes([bytes[3], bytes[4]]);
+    refuse_if(version != 1 && version != 2, 3)?;
     let count = usize::from(bytes[5]);
     refuse_if(count == 0 || count > MOST_NODES, 4)?;
-    refuse_if(bytes.len() != 6 + 4 * count, 5)
+    refuse_if(bytes.len() != 6 + 4 * count, 5)?;
+    Ok(version)
 }
 
-/// Refusal 6: the lowest node that cannot be read.
-fn decoded(bytes: &[u8]) -> Result<Vec<Node>, Verdict> {
-    let mut table = Vec::new();
+/// Refusals 1 to 5, then 6: the lowest node that cannot be read.
+fn decoded(bytes: &[u8]) -> Result<Table, Verdict> {
+    let version = check_header(bytes)?;
+    let mut nodes = Vec::new();
     for quad in bytes[6..].chunks_exact(4) {
-        let node = decoded_node(quad, &table);
-        table.push(node.ok_or(Verdict::refused_at(6, table.len()))?);
+        let node = decoded_node(quad, version, &nodes);
+        nodes.push(node.ok_or(Verdict::refused_at(6, nodes.len()))?);
     }
-    Ok(table)
+    Ok(Table { version, nodes })
 }
 
 /// One node, if its operator is known and its x, y and fourth byte are good.
-fn decoded_node(quad: &[u8], below: &[Node]) -> Option<Node> {
+fn decoded_node(quad: &[u8], version: u16, below: &[Node]) -> Option<Node> {
     let (x, y) = (usize::from(quad[1]), usize::from(quad[2]));
     let [place_x, place_y] = places(quad[0])?;
-    let good = fits(place_x, x, below) && fits(place_y, y, below) && quad[3] == 0;
-    if good {
+    let fitting = fits(place_x, x, below) && fits(place_y, y, below) && quad[3] == 0;
+    if known_in(version, quad[0]) && fitting {
         Node::new(quad[0], x, y)
     } else {
         None
@@ -94,17 +102,18 @@ fn check_hollow(table: &[Node]) -> Result<(), Verdict> {
 }
 
 /// The bytes of a table; the nodes must be few enough for one count byte.
-pub fn table_bytes(table: &[Node]) -> Vec<u8> {
-    let mut bytes = vec![b'S', b'V', b'T', 1, 0, table.len() as u8];
-    for node in table {
+pub fn table_bytes(version: u16, nodes: &[Node]) -> Vec<u8> {
+    let mut bytes = b"SVT".to_vec();
+    bytes.extend(version.to_le_bytes());
+    bytes.push(nodes.len() as u8);
+    for node in nodes {
         let (operator, x, y) = node.parts();
         bytes.extend([operator, x as u8, y as u8, 0]);
     }
     bytes
 }
 
-/// The nodes of bytes that pass refusals 1 to 6, for tools that change tables.
-pub fn readable(bytes: &[u8]) -> Option<Vec<Node>> {
-    check_header(bytes).ok()?;
+/// The table of bytes that pass refusals 1 to 6, for tools that change tables.
+pub fn readable(bytes: &[u8]) -> Option<Table> {
     decoded(bytes).ok()
 }

@@ -3,10 +3,31 @@
 use crate::node::Node;
 use std::collections::HashMap;
 
+/// A sample with the one before it, which tells what has risen and fallen.
+#[derive(Clone, Copy, Debug, PartialEq, Eq, Hash)]
+pub struct Pair {
+    pub before: u64,
+    pub sample: u64,
+}
+
+/// The pairs of a whole record: the sample before the first is all zero.
+///
+/// They are made once, before any suffix is taken, so that a suffix begins
+/// with a pair that still knows the sample before it.
+pub fn pairs(record: &[u64]) -> Vec<Pair> {
+    let mut before = 0;
+    let mut pairs = Vec::with_capacity(record.len());
+    for &sample in record {
+        pairs.push(Pair { before, sample });
+        before = sample;
+    }
+    pairs
+}
+
 /// One letter of a word.
 #[derive(Clone, Copy, Debug, PartialEq, Eq)]
 pub enum Letter {
-    Sample(u64),
+    Pair(Pair),
     Top,
     Bottom,
 }
@@ -39,9 +60,9 @@ impl Tail {
     }
 }
 
-/// The samples and the first `extra` letters of the tail.
-pub fn whole(samples: &[u64], tail: Tail, extra: usize) -> Vec<Letter> {
-    let mut letters: Vec<Letter> = samples.iter().map(|&s| Letter::Sample(s)).collect();
+/// The pairs and the first `extra` letters of the tail.
+pub fn whole(pairs: &[Pair], tail: Tail, extra: usize) -> Vec<Letter> {
+    let mut letters: Vec<Letter> = pairs.iter().map(|&pair| Letter::Pair(pair)).collect();
     if let Some(letter) = tail.letter() {
         letters.extend(vec![letter; extra]);
     }
@@ -49,28 +70,26 @@ pub fn whole(samples: &[u64], tail: Tail, extra: usize) -> Vec<Letter> {
 }
 
 /// The first `end` letters of a word, then `extra` letters ⊤.
-pub fn cut(samples: &[u64], tail: Tail, end: usize, extra: usize) -> Vec<Letter> {
-    let mut letters = whole(samples, tail, end);
+pub fn cut(pairs: &[Pair], tail: Tail, end: usize, extra: usize) -> Vec<Letter> {
+    let mut letters = whole(pairs, tail, end);
     letters.truncate(end);
     letters.extend(vec![Letter::Top; extra]);
     letters
 }
 
-/// The values of all booleans of a table on the samples of a record.
+/// The values of all booleans of a table on the pairs of a record.
 ///
 /// They are kept, since a boolean may be shared many times.
 pub struct Booleans {
-    values: HashMap<u64, Vec<bool>>,
+    values: HashMap<Pair, Vec<bool>>,
 }
 
 impl Booleans {
-    /// Works out every boolean of the table on every sample.
-    pub fn new(table: &[Node], samples: &[u64]) -> Booleans {
+    /// Works out every boolean of the table on every pair.
+    pub fn new(table: &[Node], pairs: &[Pair]) -> Booleans {
         let mut values = HashMap::new();
-        for &sample in samples {
-            values
-                .entry(sample)
-                .or_insert_with(|| values_on(table, sample));
+        for &pair in pairs {
+            values.entry(pair).or_insert_with(|| values_on(table, pair));
         }
         Booleans { values }
     }
@@ -78,7 +97,7 @@ impl Booleans {
     /// Whether a letter satisfies b: ⊤ satisfies every boolean, ⊥ none.
     pub fn satisfies(&self, letter: Letter, b: usize) -> bool {
         match letter {
-            Letter::Sample(sample) => self.value(sample, b),
+            Letter::Pair(pair) => self.value(pair, b),
             Letter::Top => true,
             Letter::Bottom => false,
         }
@@ -87,25 +106,29 @@ impl Booleans {
     /// Whether a letter satisfies not c: again ⊤ does and ⊥ does not.
     pub fn satisfies_not(&self, letter: Letter, c: usize) -> bool {
         match letter {
-            Letter::Sample(sample) => !self.value(sample, c),
+            Letter::Pair(pair) => !self.value(pair, c),
             Letter::Top => true,
             Letter::Bottom => false,
         }
     }
 
-    /// The usual value of b on a sample of the record.
-    fn value(&self, sample: u64, b: usize) -> bool {
-        self.values.get(&sample).is_some_and(|values| values[b])
+    /// The usual value of b on a pair of the record.
+    fn value(&self, pair: Pair, b: usize) -> bool {
+        self.values.get(&pair).is_some_and(|values| values[b])
     }
 }
 
-/// The usual value of each boolean on one sample; other nodes get false.
-fn values_on(table: &[Node], sample: u64) -> Vec<bool> {
+/// The usual value of each boolean on one pair; other nodes get false.
+fn values_on(table: &[Node], pair: Pair) -> Vec<bool> {
+    let now = |s: usize| pair.sample >> s & 1 == 1;
+    let before = |s: usize| pair.before >> s & 1 == 1;
     let mut values: Vec<bool> = Vec::with_capacity(table.len());
     for node in table {
         let value = match *node {
             Node::Constant(x) => x == 1,
-            Node::Signal(s) => sample >> s & 1 == 1,
+            Node::Signal(s) => now(s),
+            Node::Risen(s) => now(s) && !before(s),
+            Node::Fallen(s) => before(s) && !now(s),
             Node::Not(x) => !values[x],
             Node::And(x, y) => values[x] && values[y],
             Node::Or(x, y) => values[x] || values[y],

@@ -1,144 +1,122 @@
-//! Counts over some thousands of seeds: everything occurs often enough.
+//! Everything occurs often enough, among random cases and among those stored.
 
+use super::counts::Counts;
 use crate::node::OPERATORS;
-use crate::rewriting::rewritten;
-use crate::table::checked;
-use crate::{answer, random_case, Answer, Case};
-use std::collections::BTreeMap;
+use crate::{answer, answer_text, parse_case, random_case};
 
 const SEEDS: u64 = 12_000;
 
-/// What occurred how often, by name.
-type Counts = BTreeMap<String, usize>;
+/// The refusals of each entry point, and its acceptance.
+const NUMBERS: [(&str, &[u8]); 6] = [
+    ("check", &[0, 1, 2, 3, 4, 5, 6, 7, 8, 9]),
+    ("read", &[0, 1, 2, 3, 5, 10, 15]),
+    ("rewrite", &[0, 1, 2, 3, 4, 5, 6, 7, 8, 9, 13, 15]),
+    ("judge", &[0, 1, 2, 3, 4, 5, 6, 7, 8, 9, 10, 11, 12, 13]),
+    ("ends", &[0, 1, 2, 3, 4, 5, 6, 7, 8, 9, 10, 11, 12, 13, 14]),
+    ("program", &[0, 1, 2, 3, 4, 5, 6, 7, 8, 9, 10, 12, 13]),
+];
 
-/// Counts one more of something.
-fn note(counts: &mut Counts, name: String) {
-    *counts.entry(name).or_default() += 1;
+/// The refusals of versions and nodes that request 2 is about.
+const FAULTS: [&str; 11] = [
+    "table of version 0",
+    "table of version 3",
+    "table of version 257",
+    "table of version 258",
+    "table of version 512",
+    "record of version 2",
+    "operator in version 1",
+    "operator between 7 and 15",
+    "operator of no signal",
+    "operator with y",
+    "operator with a fourth byte",
+];
+
+/// How tables use risen and fallen signals, and what the signals do.
+const USES: [&str; 18] = [
+    "risen of 0",
+    "risen of 63",
+    "not risen",
+    "clock risen",
+    "risen shared",
+    "risen high at first",
+    "risen rises later",
+    "risen stays high",
+    "risen falls",
+    "fallen of 0",
+    "fallen of 63",
+    "not fallen",
+    "clock fallen",
+    "fallen shared",
+    "fallen high at first",
+    "fallen rises later",
+    "fallen stays high",
+    "fallen falls",
+];
+
+const FLAGS: [&str; 4] = ["tested true", "tested false", "top true", "top false"];
+
+/// A name with each of some numbers.
+fn each<T: ToString>(name: &str, numbers: impl IntoIterator<Item = T>) -> Vec<String> {
+    let named = |number: T| format!("{name} {}", number.to_string());
+    numbers.into_iter().map(named).collect()
 }
 
-/// Counts what a case is like.
-fn note_case(counts: &mut Counts, case: &Case) {
-    let kind = match case {
-        Case::Check { .. } => "check",
-        Case::Read { .. } => "read",
-        Case::Rewrite { .. } => "rewrite",
-        Case::Judge { .. } => "judge",
-        Case::Ends { .. } => "ends",
-        Case::Program { .. } => "program",
-    };
-    note(counts, format!("case {kind}"));
-    if let Case::Program { input } = case {
-        if input.len() > 996 {
-            note(counts, "long input".to_string());
-        }
-    }
-}
-
-/// Counts the operators and sizes of an accepted table.
-fn note_table(counts: &mut Counts, table: &[u8], samples: usize) {
-    let Ok(nodes) = checked(table) else { return };
-    let m = rewritten(&nodes).len();
-    for operator in OPERATORS {
-        if nodes.iter().any(|node| node.parts().0 == operator) {
-            note(counts, format!("operator {operator}"));
-        }
-    }
-    if matches!(m, 100..=121) {
-        note(counts, format!("m {m}"));
-    }
-    if matches!(samples, 0 | 63) {
-        note(counts, format!("n {samples}"));
-    }
-    if m >= 100 && samples >= 50 {
-        note(counts, "large".to_string());
-    }
-}
-
-/// Counts what an answer says.
-fn note_answer(counts: &mut Counts, answer: &Answer) {
-    let refused = match answer {
-        Answer::Program(line) if line.starts_with("refused") => {
-            let number = line.split(' ').nth(1).unwrap_or_default();
-            note(counts, format!("program refusal {number}"));
-            true
-        }
-        _ => answer.verdict().is_some_and(|verdict| !verdict.accepted()),
-    };
-    note(counts, format!("refused {refused}"));
-    if let Some(verdict) = answer.verdict() {
-        note(counts, format!("refusal {}", verdict.number));
-    }
-    match answer {
-        Answer::Judge(judged, _) if !refused => {
-            note(counts, format!("level {}", judged.level));
-            note(counts, format!("tested {}", judged.tested));
-        }
-        Answer::Ends(ends, _) if !refused => {
-            note(counts, format!("top {}", ends.top));
-            note(counts, format!("mask {}", ends.mask.count_ones().min(3)));
-        }
-        _ => {}
-    }
-}
-
-/// All counts over the seeds.
-fn counted() -> Counts {
-    let mut counts = Counts::new();
-    for seed in 0..SEEDS {
-        let case = random_case(seed);
-        note_case(&mut counts, &case);
-        let samples = match &case {
-            Case::Judge { samples, .. } | Case::Ends { samples, .. } => samples.len(),
-            _ => 1,
-        };
-        if let Case::Judge { table, .. }
-        | Case::Ends { table, .. }
-        | Case::Check { table }
-        | Case::Rewrite { table, .. } = &case
-        {
-            note_table(&mut counts, table, samples);
-        }
-        note_answer(&mut counts, &answer(&case));
-    }
-    counts
+/// Asserts that accepted tables are of version 2 about as often as of version 1.
+fn versions_are_even(counts: &Counts) {
+    let [one, two] = ["version 1", "version 2"].map(|name| counts.of(name));
+    let share = two * 100 / (one + two);
+    assert!((47..=53).contains(&share), "{share} % of version 2");
 }
 
 #[test]
 fn everything_occurs() {
-    let counts = counted();
+    let counts = Counts::over((0..SEEDS).map(random_case));
     println!("{counts:#?}");
-    let at_least = |name: String, least: usize| {
-        let count = counts.get(&name).copied().unwrap_or(0);
-        assert!(count >= least, "{name}: {count}");
-    };
-    for number in 0..=15 {
-        at_least(format!("refusal {number}"), 40);
+    for (kind, numbers) in NUMBERS {
+        counts.at_least(500, [format!("case {kind}")]);
+        counts.at_least(1, each(kind, numbers));
     }
-    for number in [1, 2, 3, 4, 5, 6, 7, 9, 10, 12, 13] {
-        at_least(format!("program refusal {number}"), 3);
-    }
-    for operator in OPERATORS {
-        at_least(format!("operator {operator}"), 300);
-    }
-    for level in 0..=3 {
-        at_least(format!("level {level}"), 250);
-    }
-    for mask in 0..=3 {
-        at_least(format!("mask {mask}"), 60);
-    }
-    for m in 100..=120 {
-        at_least(format!("m {m}"), 2);
-    }
-    for name in ["tested true", "tested false", "top true", "top false"] {
-        at_least(name.to_string(), 200);
-    }
-    for kind in ["check", "read", "rewrite", "judge", "ends", "program"] {
-        at_least(format!("case {kind}"), 500);
-    }
-    for (name, least) in [("n 0", 200), ("n 63", 50), ("m 121", 20), ("large", 30)] {
-        at_least(name.to_string(), least);
-    }
-    at_least("long input".to_string(), 10);
-    let accepted = counts["refused false"] * 100 / SEEDS as usize;
+    counts.at_least(40, each("number", 0..=15));
+    counts.at_least(300, each("operator", OPERATORS));
+    counts.at_least(250, each("level", 0..=3));
+    counts.at_least(60, each("mask", 0..=3));
+    counts.at_least(2, each("m", 100..=120));
+    counts.at_least(200, FLAGS);
+    counts.at_least(200, ["n 0"]);
+    counts.at_least(50, ["n 63"]);
+    counts.at_least(20, ["m 121"]);
+    counts.at_least(30, ["large"]);
+    counts.at_least(10, ["long input"]);
+    counts.at_least(200, USES);
+    counts.at_least(3, FAULTS);
+    versions_are_even(&counts);
+    let accepted = counts.of("number 0") * 100 / SEEDS as usize;
     assert!((60..=66).contains(&accepted), "{accepted} % accepted");
+}
+
+/// A file of the stored cases.
+fn stored_file(name: &str) -> String {
+    let folder = concat!(env!("CARGO_MANIFEST_DIR"), "/../../crates/opinion");
+    std::fs::read_to_string(format!("{folder}/{name}")).expect("a stored file")
+}
+
+#[test]
+fn everything_is_stored() {
+    let (cases, answers) = (stored_file("stdin"), stored_file("stdout"));
+    let read = |line| parse_case(line).expect("a good line");
+    for (line, said) in cases.lines().zip(answers.lines()) {
+        let (label, case) = read(line);
+        assert_eq!(answer_text(label, &answer(&case)), said);
+    }
+    let counts = Counts::over(cases.lines().map(|line| read(line).1));
+    for (kind, numbers) in NUMBERS {
+        counts.at_least(1, each(kind, numbers));
+    }
+    counts.at_least(20, each("number", 0..=15));
+    counts.at_least(100, each("operator", OPERATORS));
+    counts.at_least(50, each("level", 0..=3));
+    counts.at_least(50, FLAGS);
+    counts.at_least(20, USES);
+    counts.at_least(1, FAULTS);
+    versions_are_even(&counts);
 }

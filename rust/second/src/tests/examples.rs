@@ -1,17 +1,8 @@
 //! The examples of document 01 and the small cases of the open points.
 
-use super::{abc, table};
+use super::{abc, clocked_strong, clocked_strong_rewritten, has_level, table};
 use crate::record::record_bytes;
-use crate::{check, judge, level, line, match_ends, rewrite, Verdict};
-
-/// Asserts the level of a table on samples, judged both ways.
-fn has_level(table: &[u8], samples: &[u64], expected: u8) {
-    let mut workspace = vec![0; 7800];
-    let judged = judge(table, samples, &mut workspace);
-    assert_eq!(judged.verdict, Verdict::ACCEPTED);
-    assert_eq!(judged.level, expected, "{table:?} on {samples:?}");
-    assert_eq!(level(table, samples), judged);
-}
+use crate::{check, judge, line, match_ends, rewrite, Verdict};
 
 /// strong(a ##1 b) or weak(a ##1 b).
 fn a_then_b(promotion: u8) -> Vec<u8> {
@@ -82,21 +73,9 @@ fn sample_limit_example() {
 
 #[test]
 fn rewriting_example() {
-    let clocked = table(&[(1, 0, 0), (1, 2, 0), (16, 0, 0), (32, 2, 0), (40, 1, 3)]);
-    let expected = table(&[
-        (1, 0, 0),
-        (1, 2, 0),
-        (2, 1, 0),
-        (3, 1, 0),
-        (16, 2, 0),
-        (20, 4, 0),
-        (16, 2, 0),
-        (21, 6, 0),
-        (19, 5, 7),
-        (16, 3, 0),
-        (17, 8, 9),
-        (32, 10, 0),
-    ]);
+    let (a, c) = ((1, 0, 0), (1, 2, 0));
+    let clocked = table(&clocked_strong(a, c));
+    let expected = table(&clocked_strong_rewritten(a, c));
     let mut out = vec![9; 60];
     let rewriting = rewrite(&clocked, &mut out);
     assert_eq!(

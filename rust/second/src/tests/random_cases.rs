@@ -1,13 +1,13 @@
 //! Checks over random cases: the definitions twice, and rows against answers.
 
 use crate::grow::{grown, Plan, Shape};
-use crate::literal::{Literal, Word};
+use crate::literal::{letters, Literal, Word};
 use crate::meaning::Meaning;
 use crate::node::{clocks, Node, Sort};
 use crate::random::Random;
 use crate::rewriting::rewritten;
 use crate::table::{checked, table_bytes};
-use crate::words::{whole, Tail};
+use crate::words::Tail;
 use crate::{answer, check, judge, level, line, match_ends, random_case, read, rewrite};
 use crate::{Answer, Case, Verdict};
 
@@ -19,16 +19,19 @@ fn accepted(seed: u64) -> Option<(Vec<Node>, Vec<u64>)> {
     let (Case::Judge { table, samples, .. } | Case::Ends { table, samples, .. }) = &case else {
         return None;
     };
-    let nodes = checked(table).ok()?;
+    let nodes = checked(table).ok()?.nodes;
     (samples.len() <= 63).then(|| (nodes, samples.clone()))
 }
 
-/// A small table with many clocks, and a short record.
+/// A small table with many clocks, at times with risen and fallen signals, and
+/// a short record.
 fn small(random: &mut Random) -> (Vec<Node>, Vec<u64>) {
     let plan = Plan {
+        version: 2,
         root: random.pick(&[Sort::Property, Sort::Property, Sort::Sequence]),
         size: random.between(2, 8),
         signals: vec![0, 1],
+        edges: random.pick(&[0, 50, 90]),
         clocks: random.pick(&[5, 30, 60]),
         empties: 8,
         shape: random.pick(&[Shape::Mixed, Shape::Chain]),
@@ -50,12 +53,12 @@ fn definitions_agree_with_the_literal_ones() {
         if letters.count() <= 3 {
             compare(&nodes, &samples);
             for (node, clock) in nodes.iter().zip(clocks(&nodes)) {
-                let operator = usize::from(node.parts().0);
-                compared[operator] += usize::from(clock.is_some());
+                let counts = clock.is_some() || node.sort() == Sort::Boolean;
+                compared[usize::from(node.parts().0)] += usize::from(counts);
             }
         }
     }
-    for operator in (16..=22).chain(32..=40) {
+    for operator in (0..=6).chain(16..=22).chain(32..=40) {
         assert!(compared[operator] > 100, "{operator}: {compared:?}");
     }
 }
@@ -69,18 +72,22 @@ fn compare(nodes: &[Node], samples: &[u64]) {
     let mut meaning = Meaning::new(nodes, samples);
     let (root, n) = (nodes.len() - 1, samples.len());
     for tail in TAILS {
-        let letters = whole(samples, tail, 4);
+        let letters = letters(samples);
+        let word = Word { letters, tail };
         for i in 0..=n {
+            let suffix = word.suffix(i);
             if nodes[root].sort() == Sort::Property {
-                let letters = letters[i..n].to_vec();
-                let said = literal.satisfies(root, None, &Word { letters, tail });
+                let said = literal.satisfies(root, None, &suffix);
                 let context = (nodes, samples, i, tail);
                 assert_eq!(said, meaning.satisfies(root, None, i, tail), "{context:?}");
                 continue;
             }
             let ends = meaning.ends(root, None, i, tail);
-            for end in i..=letters.len().min(n + 2) {
-                let said = literal.matches(root, None, &letters[i..end]);
+            for end in i..=n + 2 {
+                let Some(stretch) = suffix.prefix(end - i) else {
+                    break;
+                };
+                let said = literal.matches(root, None, &stretch);
                 assert_eq!(said, ends.contains(&end), "{nodes:?} {samples:?} {i} {end}");
             }
         }
@@ -151,7 +158,7 @@ fn level_or_refusal_11(table: &[u8], samples: &[u64], given: Verdict) -> crate::
 
 /// The rewritten count of an accepted table.
 fn rewritten_count(table: &[u8]) -> usize {
-    checked(table).map_or(0, |nodes| rewritten(&nodes).len())
+    checked(table).map_or(0, |table| rewritten(&table.nodes).len())
 }
 
 #[test]
@@ -186,9 +193,10 @@ fn rewritten_tables_are_tables_and_stay() {
         };
         let once = rewritten(&nodes);
         if once.len() <= 120 {
-            assert_eq!(check(&table_bytes(&once)), Verdict::ACCEPTED);
+            let bytes = table_bytes(2, &once);
+            assert_eq!(check(&bytes), Verdict::ACCEPTED);
             let mut out = vec![0; 486];
-            let again = rewrite(&table_bytes(&once), &mut out);
+            let again = rewrite(&bytes, &mut out);
             assert_eq!(again.count, once.len());
         }
     }

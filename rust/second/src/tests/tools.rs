@@ -1,8 +1,8 @@
 //! Case text, stored sets and shrinking.
 
 use crate::rewriting::rewritten;
-use crate::table::checked;
-use crate::{answer, answer_text, case_text, parse_case, random_case, shrink, stored, Case};
+use crate::table::{checked, Table};
+use crate::{answer, answer_text, case_text, level, parse_case, random_case, shrink, stored, Case};
 
 #[test]
 fn case_text_is_read_back() {
@@ -76,48 +76,88 @@ fn stored_sets_are_moderate_and_whole() {
     );
     assert!(cases.len() < 1_500_000 && answers.len() < 1_500_000);
     let (mut m_120, mut n_63) = (0, 0);
+    let mut versions = [0; 2];
     for (line, said) in cases.lines().zip(answers.lines()) {
         let (label, case) = parse_case(line).expect("a good line");
         assert_eq!(answer_text(label, &answer(&case)), said);
         if let Case::Judge { table, samples, .. } | Case::Ends { table, samples, .. } = &case {
-            let nodes = checked(table).unwrap_or_default();
-            m_120 += usize::from(rewritten(&nodes).len() == 120);
             n_63 += usize::from(samples.len() == 63);
+            if let Ok(Table { version, nodes }) = checked(table) {
+                m_120 += usize::from(rewritten(&nodes).len() == 120);
+                versions[usize::from(version) - 1] += 1;
+            }
         }
     }
+    let [one, two] = versions;
+    assert!(one > 2_000 && two * 100 / (one + two) >= 45, "{versions:?}");
     assert!(m_120 >= 2 && n_63 >= 5, "{m_120} {n_63}");
+}
+
+/// The operators of a table.
+fn operators(table: &[u8]) -> impl Iterator<Item = &u8> {
+    table.iter().skip(6).step_by(4)
+}
+
+/// The tables and samples that shrinking leaves of the judge's cases that differ.
+fn shrunk(differs: fn(&[u8], &[u64]) -> bool) -> Vec<(Vec<u8>, Vec<u64>)> {
+    let mut case_differs = |case: &Case| match case {
+        Case::Judge { table, samples, .. } => differs(table, samples),
+        _ => false,
+    };
+    let mut left = Vec::new();
+    for seed in 0..1_000 {
+        let case = random_case(seed);
+        if !case_differs(&case) {
+            continue;
+        }
+        match shrink(case, &mut case_differs) {
+            Case::Judge {
+                table,
+                samples,
+                words: 0,
+            } => left.push((table, samples)),
+            other => panic!("still a case of the judge, with no words: {other:?}"),
+        }
+    }
+    assert!(left.len() > 3, "{}", left.len());
+    left
 }
 
 #[test]
 fn shrinking_finds_a_small_case() {
-    let has_until = |case: &Case| match case {
-        Case::Judge { table, samples, .. } => {
-            let judged = crate::level(table, samples);
-            let accepted = judged.verdict.accepted() && judged.level == 0;
-            let until = table[6.min(table.len())..]
-                .chunks(4)
-                .any(|node| node[0] == 39);
-            accepted && until
-        }
-        _ => false,
+    let breaks_an_until = |table: &[u8], samples: &[u64]| {
+        let judged = level(table, samples);
+        judged.verdict.accepted()
+            && judged.level == 0
+            && operators(table).any(|&operator| operator == 39)
     };
-    let mut shrunk = 0;
-    for seed in 0..400 {
-        let case = random_case(seed);
-        if has_until(&case) {
-            let small = shrink(case, &mut |case| has_until(case));
-            let Case::Judge {
-                table,
-                samples,
-                words,
-            } = &small
-            else {
-                panic!("still a case of the judge");
-            };
-            assert!(table.len() <= 6 + 4 * 7, "{small:?}");
-            assert!(samples.len() <= 1 && *words == 0, "{small:?}");
-            shrunk += 1;
+    for (table, samples) in shrunk(breaks_an_until) {
+        assert!(table.len() <= 6 + 4 * 9, "{table:?}");
+        assert!(samples.len() <= 1, "{samples:?}");
+        assert_eq!(table[3], 1, "version 2 is not needed: {table:?}");
+    }
+}
+
+/// The table with every risen signal made that signal.
+fn with_signals(table: &[u8]) -> Vec<u8> {
+    let mut changed = table.to_vec();
+    for operator in changed.iter_mut().skip(6).step_by(4) {
+        if *operator == 5 {
+            *operator = 1;
         }
     }
-    assert!(shrunk > 3, "{shrunk}");
+    changed
+}
+
+#[test]
+fn shrinking_keeps_a_risen_signal_that_matters() {
+    let forgets_the_sample_before = |table: &[u8], samples: &[u64]| {
+        let judged = level(table, samples);
+        let forgetful = level(&with_signals(table), samples);
+        judged.verdict.accepted() && judged.level != forgetful.level
+    };
+    for (table, samples) in shrunk(forgets_the_sample_before) {
+        assert!(table.len() <= 6 + 4 * 6, "{table:?}");
+        assert!(matches!(samples.len(), 2 | 3), "{samples:?}");
+    }
 }
