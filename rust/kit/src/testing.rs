@@ -31,7 +31,29 @@ impl Random {
 
 /// A table of nodes given by operator, x and y, and the fourth byte where it is not to be 0.
 pub fn table<const BYTES: usize>(nodes: &[[u8; BYTES]]) -> Vec<u8> {
-    let mut table = vec![b'S', b'V', b'T', 1, 0, nodes.len() as u8];
+    table_of_version(1, nodes)
+}
+
+/// The same with version 2.
+pub fn table_2<const BYTES: usize>(nodes: &[[u8; BYTES]]) -> Vec<u8> {
+    table_of_version(2, nodes)
+}
+
+/// A table as version 2, in which some of the signals rise or fall.
+pub fn rising(table: &[u8], seed: u64) -> Vec<u8> {
+    let (mut table, random) = (table.to_vec(), &mut Random(seed));
+    if let Some(version) = table.get_mut(3) {
+        *version = 2;
+    }
+    let nodes = table.get_mut(6..).unwrap_or_default();
+    for node in nodes.chunks_exact_mut(4).filter(|node| node[0] == 1) {
+        node[0] = random.pick(&[1, 1, 5, 6]);
+    }
+    table
+}
+
+fn table_of_version<const BYTES: usize>(version: u8, nodes: &[[u8; BYTES]]) -> Vec<u8> {
+    let mut table = vec![b'S', b'V', b'T', version, 0, nodes.len() as u8];
     for node in nodes {
         table.extend(node);
         table.resize(table.len() + 4 - BYTES, 0);

@@ -52,9 +52,16 @@ impl Assertion {
         }
     }
 
-    /// The table: 6 + 4 bytes a node.
+    /// The lowest version of tables that has all its operators: 1, or 2 where a signal rises or falls.
+    pub fn version(&self) -> u16 {
+        let versions = self.nodes.iter().map(|node| node.operator.since());
+        versions.max().unwrap_or(1)
+    }
+
+    /// The table: 6 + 4 bytes a node. Its version is the lowest, which the most benches can read.
     pub fn table(&self) -> Vec<u8> {
-        let mut table = vec![b'S', b'V', b'T', 1, 0, self.nodes.len() as u8];
+        let [low, high] = self.version().to_le_bytes();
+        let mut table = vec![b'S', b'V', b'T', low, high, self.nodes.len() as u8];
         for node in &self.nodes {
             table.extend([node.operator as u8, node.x, node.y, 0]);
         }
@@ -111,9 +118,10 @@ impl Assertion {
     pub fn signals(&self) -> Vec<u8> {
         let tidy = self.tidy();
         let signals = tidy.nodes.iter();
-        let signals = signals.filter(|node| node.operator == Operator::Signal);
+        let signals = signals.filter(|node| node.operator.asks_signal());
         let mut signals: Vec<u8> = signals.map(|node| node.x).collect();
         signals.sort_unstable();
+        signals.dedup();
         signals
     }
 
@@ -128,7 +136,7 @@ impl Assertion {
         self.part_under(index, self.clock(index))
     }
 
-    /// `strong(b)` of a boolean node without a clock: level 3 on the one sample that satisfies it.
+    /// `strong(b)` of a boolean node without a clock: level 3 from each sample that satisfies it.
     pub fn letter(&self, boolean: usize) -> Assertion {
         let mut builder = Builder::new();
         let boolean = self.copy(boolean, &mut builder, &mut HashMap::new());

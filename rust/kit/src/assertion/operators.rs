@@ -1,4 +1,5 @@
-//! The operators of document 01, with the sort of each node and of its operands.
+//! The operators of documents 01 and 02, with the sort of each node and of its operands, and the
+//! version of tables from which on they are known.
 
 /// The sort of a node.
 #[derive(Clone, Copy, Debug, PartialEq, Eq, Hash)]
@@ -11,7 +12,7 @@ pub enum Sort {
     Property,
 }
 
-/// The operator of a node; its number is document 01's.
+/// The operator of a node; its number is the documents'.
 #[derive(Clone, Copy, Debug, PartialEq, Eq, Hash)]
 pub enum Operator {
     /// The boolean 0 or 1.
@@ -24,6 +25,10 @@ pub enum Operator {
     And = 3,
     /// `b | b`
     Or = 4,
+    /// `rose(a)`, a signal that is 1 and was 0 at the sample before.
+    Rose = 5,
+    /// `fell(a)`, a signal that is 0 and was 1 at the sample before.
+    Fell = 6,
     /// One letter satisfying a boolean.
     Letter = 16,
     /// `R ##1 R`
@@ -62,12 +67,14 @@ use Operator::*;
 use Sort::*;
 
 /// Every operator, with its own sort and those of its operands.
-const OPERATORS: [(Operator, Sort, &[Sort]); 21] = [
+const OPERATORS: [(Operator, Sort, &[Sort]); 23] = [
     (Constant, Boolean, &[]),
     (Signal, Boolean, &[]),
     (Not, Boolean, &[Boolean]),
     (And, Boolean, &[Boolean, Boolean]),
     (Or, Boolean, &[Boolean, Boolean]),
+    (Rose, Boolean, &[]),
+    (Fell, Boolean, &[]),
     (Letter, Sequence, &[Boolean]),
     (Then, Sequence, &[Sequence, Sequence]),
     (Fused, Sequence, &[Sequence, Sequence]),
@@ -87,7 +94,7 @@ const OPERATORS: [(Operator, Sort, &[Sort]); 21] = [
 ];
 
 impl Operator {
-    /// The operator with a number, if the number is known.
+    /// The operator with a number, if any version of tables knows it.
     pub fn of(number: u8) -> Option<Operator> {
         let mut operators = OPERATORS.iter().map(|(operator, ..)| *operator);
         operators.find(|operator| *operator as u8 == number)
@@ -103,6 +110,19 @@ impl Operator {
         self.row().1
     }
 
+    /// The lowest version of tables that knows it. Later ones do, too.
+    pub fn since(self) -> u16 {
+        match self {
+            Rose | Fell => 2,
+            _ => 1,
+        }
+    }
+
+    /// Whether it asks about a signal, whose number is then x.
+    pub fn asks_signal(self) -> bool {
+        matches!(self, Signal | Rose | Fell)
+    }
+
     fn row(self) -> (Sort, &'static [Sort]) {
         let row = OPERATORS.iter().find(|(operator, ..)| *operator == self);
         row.map_or((Boolean, &[]), |(_, sort, operands)| (*sort, operands))
@@ -116,8 +136,11 @@ mod tests {
     #[test]
     fn every_operator_has_its_number_and_row() {
         let known: Vec<u8> = (0..=255).filter(|n| Operator::of(*n).is_some()).collect();
-        let page: Vec<u8> = (0..=4).chain(16..=22).chain(32..=40).collect();
+        let page: Vec<u8> = (0..=6).chain(16..=22).chain(32..=40).collect();
         assert_eq!(known, page);
+        // document 02 adds 5 and 6 with version 2
+        let later = |number: &u8| Operator::of(*number).is_some_and(|known| known.since() == 2);
+        assert_eq!(page.into_iter().filter(later).collect::<Vec<_>>(), [5, 6]);
         for (operator, sort, operands) in OPERATORS {
             assert_eq!(Operator::of(operator as u8), Some(operator));
             assert_eq!((operator.sort(), operator.operands()), (sort, operands));

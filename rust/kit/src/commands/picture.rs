@@ -58,6 +58,7 @@ From top to bottom it shows
   the verdict       the program's line, what the level means, and the assertion
   the samples       a column each, from 0, and a dashed region for what comes after the record
   the ticks         a row for each clock of the assertion, with a mark where it ticks
+  the changes       a row for each rose(a) and fell(a), with an arrow where it is so
   the signals       a waveform each: all that have a name or that the assertion asks about
   the levels        the level at the start and after each sample, as a bar with its digit
   the legend        what the bars and the marks mean

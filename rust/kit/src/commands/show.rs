@@ -32,7 +32,8 @@ kit show TABLE|RECORD [--names FILE.txt] [--nodes]
 
 Writes the assertion of a table in the kit's notation to standard output. The text can be read
 again: kit table makes a table of it that has the same verdict on every record. Booleans that
-nothing uses are left out, and equal ones become one.
+nothing uses are left out, and equal ones become one. A comment tells where a table has version 2
+and no rose or fell needs it, since kit table then writes version 1.
 
 Of a record it writes a line for each sample: its number, the 64 signals as one number, of which
 bit 3 is signal 3, and the names of the signals that are 1, or - where none is.
@@ -44,8 +45,8 @@ refused node the nodes up to it and two more. A refused record is shown so too.
   RECORD            a file whose name ends in .svw
   --names FILE.txt  a text that declares the signals' names, for a .svt or a .svw; without it signal
                     3 is s3
-  --nodes           the nodes instead of the text: number, operator, x, y, and the part of the
-                    assertion that the node stands for
+  --nodes           the version and the nodes instead of the text: number, operator, x, y, and the
+                    part of the assertion that the node stands for
 
 Examples:
 
@@ -77,7 +78,7 @@ fn run(options: &Options, console: &mut Console) -> Outcome {
             console.say(&refused::report(table, names, refusal))?;
             return Ok(REFUSED);
         }
-        Ok(assertion) if options.flag("--nodes") => nodes::accepted(&assertion, names),
+        Ok(assertion) if options.flag("--nodes") => nodes::accepted(table, &assertion, names),
         Ok(assertion) => text(table, &assertion, names),
     };
     console.say(&shown)?;
@@ -104,9 +105,16 @@ fn run_record(
     Ok(status)
 }
 
-/// The text, after comments that say what the judge refuses in it.
+/// The text, after comments that say what the judge refuses in it, and which version is not kept.
 fn text(table: &[u8], assertion: &Assertion, names: &Names) -> String {
     let mut text = String::new();
+    let (given, needed) = (form::version(table), assertion.tidy().version());
+    if given != needed {
+        text.push_str(&format!(
+            "// the table has version {given}, and kit table writes this text as version {needed}: \
+             nothing in it needs more\n"
+        ));
+    }
     if let Some(words) = refusals::sequence(assertion) {
         text.push_str(&format!("// a sequence: {words}\n"));
     }

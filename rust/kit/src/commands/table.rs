@@ -33,7 +33,7 @@ signals of a sample by their numbers, 0 to 63, and then says the assertion:
   // from each acknowledge on, the media strobe comes before the supply drops
   (ack |-> strong((!drop)[*1:$] ##0 strobe)) until strong(0)
 
-The operators, tightest first, and what makes a property of a sequence:
+The operators, tightest first, what a signal does, and what makes a property of a sequence:
 
   R[*0]   R[*1:$]       nothing at all; R once or more
   !b   b & c   b | c    not, and, or; 0 and 1 are constants
@@ -45,12 +45,18 @@ The operators, tightest first, and what makes a property of a sequence:
   R |-> P               wherever R ends, P holds from its last sample on
   @(c) X                X, seen only at the samples where c is 1
 
+  rose(a)   fell(a)     signal a has risen, has fallen, since the sample before; before sample 0
+                        all signals were 0
+
   strong(R)             a stretch from here on matches R
   weak(R)               nothing seen so far rules R out
 
-Here b and c are booleans of one sample, R and S sequences, P and Q properties, and X is one of the
-last two. Parentheses group. A line such as `let busy = a & !b` between the signals and the
-assertion gives a boolean a name. docs/NOTATION.md has the whole grammar.
+Here a is a signal, b and c are booleans of one sample, R and S sequences, P and Q properties, and X
+is one of the last two. Parentheses group. A line such as `let busy = a & !b` between the signals
+and the assertion gives a boolean a name. docs/NOTATION.md has the whole grammar.
+
+The table has version 1, or version 2 where rose or fell stands in it, and then the first line says
+so: benches that know version 1 alone refuse it with number 3.
 
   -o FILE.svt       where the table goes
 
@@ -73,7 +79,10 @@ fn run(options: &Options, console: &mut Console) -> Outcome {
         return Err(Failure::Usage(words.to_string()));
     }
     let text = files::read_text(input)?;
-    if text.starts_with("SVT\u{1}\0") {
+    if ["SVT\u{1}\0", "SVT\u{2}\0"]
+        .iter()
+        .any(|mark| text.starts_with(mark))
+    {
         let words = "this is a table and no text: kit show writes it as text";
         return Err(Failure::Failed(format!("{}: {words}", files::shown(input))));
     }
@@ -99,7 +108,7 @@ fn refused(path: &Path, read: &Text, refusal: Refusal) -> Failure {
     Failure::Refused(format!("{}\n  {part}\n{HOLLOW}", failure.words()))
 }
 
-/// `15 nodes, 3 signals, a property`
+/// `15 nodes, 3 signals, a property`, after the version where it is not 1.
 fn summary(assertion: &Assertion) -> String {
     let nodes = words::count(assertion.nodes().len(), "node");
     let signals = words::count(assertion.signals().len(), "signal");
@@ -107,5 +116,9 @@ fn summary(assertion: &Assertion) -> String {
         Some(words) => format!("a sequence: {words}"),
         None => "a property".to_string(),
     };
-    format!("{nodes}, {signals}, {kind}")
+    let version = match assertion.version() {
+        1 => String::new(),
+        later => format!("version {later}, "),
+    };
+    format!("{version}{nodes}, {signals}, {kind}")
 }

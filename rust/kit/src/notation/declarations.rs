@@ -24,7 +24,7 @@ impl<'a> Parser<'a> {
                     self.take();
                 } else if self.peek().kind == Kind::End {
                     break;
-                } else if RESERVED.contains(&self.peek().text) {
+                } else if self.begins_line() {
                     let words = "a new line is due here: declarations and the assertion begin one";
                     return Err(self.mistake(self.peek().start, words.to_string()));
                 }
@@ -32,6 +32,19 @@ impl<'a> Parser<'a> {
             self.end_line();
         }
         Ok(())
+    }
+
+    /// Whether the word ahead begins a line that goes on where it should have ended. Before `=`, `,` and
+    /// the end it was meant as a name.
+    fn begins_line(&self) -> bool {
+        let after = self.second();
+        match self.peek().text {
+            "strong" | "weak" | "rose" | "fell" => after.text == "(",
+            word => {
+                let name = after.kind == Kind::End || ["=", ","].contains(&after.text);
+                RESERVED.contains(&word) && !name
+            }
+        }
     }
 
     /// Reads one declaration, `NAME=NUMBER` or `NAME` for the next number, and answers the number
@@ -114,10 +127,8 @@ impl<'a> Parser<'a> {
             let hint = format!(": {NAMES_HAVE}");
             return Err(self.not_due(token, token.text, expected, &hint));
         } else if RESERVED.contains(&token.text) {
-            format!(
-                "{} is a word of the notation and names no signal",
-                token.text
-            )
+            let word = token.text;
+            format!("{word} is a word of the notation and names no signal: {word}_ would do")
         } else if token.text.chars().count() > LONGEST_NAME {
             format!("a name has at most {LONGEST_NAME} characters")
         } else if self.knows(token.text) {

@@ -29,7 +29,7 @@ impl fmt::Display for Hint {
 /// The hint for a word or sign that is not part of the notation.
 pub fn of(text: &str) -> Option<Hint> {
     if text.starts_with('$') && text.len() > 1 {
-        return Some(FUNCTION);
+        return Some(find(&FUNCTIONS, text).unwrap_or(FUNCTION));
     }
     find(&FOREIGN, text)
 }
@@ -76,8 +76,8 @@ fn find(table: &[(&str, Hint)], text: &str) -> Option<Hint> {
 }
 
 const FUNCTION: Hint = Words(
-    "functions such as $rose are not part of the notation: `!a ##1 a` is a rise of a, over two \
-     samples",
+    "functions are not part of the notation, but for `rose(a)` and `fell(a)` of a signal, which \
+     stand without $",
 );
 const BIT: Hint = Words(
     "`R[*0]` or `R[*1:$]` was expected: a signal has one bit, so each bit of a bus is a signal of \
@@ -104,8 +104,16 @@ const SET_UP: Hint =
 const RESET: Hint = Words("resets are not part of the notation: take them out of the record");
 const ABSENT: Hint =
     Words("this operator is not part of the notation: kit table --help lists those that are");
+const POSEDGE: Hint = Words(
+    "`posedge c` is written `rose(c)`, as in `@(rose(c))`: c is 1, and was 0 at the sample before; \
+     `kit record --on` takes samples at an edge",
+);
+const NEGEDGE: Hint = Words(
+    "`negedge c` is written `fell(c)`, as in `@(fell(c))`: c is 0, and was 1 at the sample before; \
+     `kit record --on` takes samples at an edge",
+);
 const EDGE: Hint = Words(
-    "edges are not part of the notation: `@(c)` ticks at each sample where c is 1; `kit record \
+    "`edge c` is written `rose(c) | fell(c)`: c is not as it was at the sample before; `kit record \
      --on` takes samples at an edge",
 );
 const JOINED: Hint = Words(
@@ -224,8 +232,8 @@ pub const FOREIGN: [(&str, Hint); 81] = [
     ("reject_on", RESET),
     ("sync_accept_on", RESET),
     ("sync_reject_on", RESET),
-    ("posedge", EDGE),
-    ("negedge", EDGE),
+    ("posedge", POSEDGE),
+    ("negedge", NEGEDGE),
     ("edge", EDGE),
     ("assert", SET_UP),
     ("assume", SET_UP),
@@ -245,6 +253,27 @@ pub const FOREIGN: [(&str, Hint); 81] = [
     (
         "define",
         Words("a boolean gets a name in a line such as `let busy = a & !b`"),
+    ),
+];
+
+/// In SystemVerilog these go by the clock tick before.
+const BY_SAMPLE: &str = ", and goes by the sample before, not by the clock tick before";
+
+/// The functions of SystemVerilog that can be said of a signal a.
+pub const FUNCTIONS: [(&str, Hint); 5] = [
+    ("$rose", Noted("$rose(a)", "rose(a)", BY_SAMPLE)),
+    ("$fell", Noted("$fell(a)", "fell(a)", BY_SAMPLE)),
+    (
+        "$changed",
+        Noted("$changed(a)", "(rose(a) | fell(a))", BY_SAMPLE),
+    ),
+    (
+        "$stable",
+        Noted("$stable(a)", "!(rose(a) | fell(a))", BY_SAMPLE),
+    ),
+    (
+        "$past",
+        Noted("$past(a)", "(fell(a) | a & !rose(a))", BY_SAMPLE),
     ),
 ];
 

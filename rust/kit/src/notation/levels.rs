@@ -22,5 +22,5 @@ pub const BOTH: u8 = 8;
 pub const NEGATION: u8 = 9;
 /// `R[*0]`, `R[*1:$]`
 pub const REPETITION: u8 = 10;
-/// Names, constants, `strong(R)`, `weak(R)` and what stands in parentheses.
+/// Names, constants, `rose(a)`, `fell(a)`, `strong(R)`, `weak(R)` and what stands in parentheses.
 pub const PRIMARY: u8 = 11;

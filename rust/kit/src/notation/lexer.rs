@@ -59,7 +59,7 @@ const SIGNS: [&str; 15] = [
 ];
 
 /// Reads a text token by token, so that no more is kept of it than needed.
-#[derive(Debug)]
+#[derive(Clone, Debug)]
 pub struct Lexer<'a> {
     rest: &'a str,
     place: Place,

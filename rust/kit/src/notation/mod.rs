@@ -1,6 +1,7 @@
-//! Assertions as text: a small notation for exactly document 01's operators. docs/NOTATION.md has
-//! its grammar.
+//! Assertions as text: a small notation for exactly the operators of documents 01 and 02.
+//! docs/NOTATION.md has its grammar.
 mod declarations;
+mod edges;
 mod hints;
 mod levels;
 mod lexer;
@@ -18,8 +19,8 @@ use parser::Parser;
 pub use sorts::called;
 
 /// The words that cannot name a signal.
-pub const RESERVED: [&str; 9] = [
-    "signals", "let", "strong", "weak", "not", "nexttime", "and", "or", "until",
+pub const RESERVED: [&str; 11] = [
+    "signals", "let", "strong", "weak", "not", "nexttime", "and", "or", "until", "rose", "fell",
 ];
 
 /// A text that was read: the signals that it declares, and its assertion.

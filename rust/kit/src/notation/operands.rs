@@ -3,7 +3,7 @@ use super::hints;
 use super::levels::{CLOCK, NEGATION, PREFIX};
 use super::lexer::{Kind, Place, Token};
 use super::mistake::Mistake;
-use super::parser::Parser;
+use super::parser::{Parser, PREFIXES};
 use super::sorts::{called, Part};
 use super::RESERVED;
 use crate::assertion::{Operator, Sort};
@@ -60,7 +60,7 @@ impl Parser<'_> {
 
     /// Whether a token after the assertion begins another on a new line.
     fn begins_another(&self, token: Token) -> bool {
-        let begins = ["strong", "weak", "not", "nexttime", "(", "@", "!"].contains(&token.text);
+        let begins = PREFIXES.contains(&token.text) || ["(", "@", "!"].contains(&token.text);
         self.starts_line() && (begins || self.knows(token.text))
     }
 
@@ -132,6 +132,8 @@ impl Parser<'_> {
             (_, "(") => return self.enclosed(wanted, ""),
             (_, "strong") => Operator::Strong,
             (_, "weak") => Operator::Weak,
+            (_, "rose") => return self.edge(Operator::Rose),
+            (_, "fell") => return self.edge(Operator::Fell),
             (Kind::Number, _) => return self.constant(),
             (Kind::Word, name) if !RESERVED.contains(&name) => return self.name(),
             _ => return Err(self.no_operand(token, wanted)),
@@ -161,6 +163,11 @@ impl Parser<'_> {
         }
         self.take();
         let part = self.part(CLOCK, wanted)?;
+        self.closed(opening, part)
+    }
+
+    /// A part with the parentheses around it, of which the closing one is due.
+    pub fn closed(&mut self, opening: Token, part: Part) -> Result<Part, Mistake> {
         let closing = self.peek();
         let Place { line, column, .. } = opening.start;
         if closing.text == ")" {

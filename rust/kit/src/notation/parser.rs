@@ -13,6 +13,9 @@ use std::collections::BTreeMap;
 /// holds far more.
 const DEEPEST: usize = 400;
 
+/// The words of the notation that begin a part.
+pub const PREFIXES: [&str; 6] = ["not", "nexttime", "strong", "weak", "rose", "fell"];
+
 /// A text that is being read, with one token looked at ahead.
 pub struct Parser<'a> {
     text: &'a str,
@@ -91,10 +94,20 @@ impl<'a> Parser<'a> {
 
     /// The token ahead; the end where a declaration's line ends.
     pub fn peek(&self) -> Token<'a> {
+        self.in_line(self.ahead)
+    }
+
+    /// A token that is looked at, or the end where it stands after a declaration's line.
+    fn in_line(&self, token: Token<'a>) -> Token<'a> {
         match self.line {
-            Some(line) if self.ahead.start.line > line => Token::end_at(self.last),
-            _ => self.ahead,
+            Some(line) if token.start.line > line => Token::end_at(self.last),
+            _ => token,
         }
+    }
+
+    /// The token after the one ahead.
+    pub fn second(&self) -> Token<'a> {
+        self.in_line(self.lexer.clone().token())
     }
 
     /// Takes the token ahead.
@@ -118,6 +131,21 @@ impl<'a> Parser<'a> {
     /// The operator of a node that was added.
     pub fn operator(&self, index: usize) -> Option<Operator> {
         self.builder.node(index).map(|node| node.operator)
+    }
+
+    /// The number of the signal that a node is, where it is one.
+    pub fn signal_of(&self, index: usize) -> Option<u8> {
+        let node = self.builder.node(index);
+        let signal = node.filter(|node| node.operator == Operator::Signal);
+        signal.map(|node| node.x)
+    }
+
+    /// The name of the signal that a node turns round with `!`, where it does.
+    pub fn turned_signal(&self, index: usize) -> Option<String> {
+        let node = self.builder.node(index);
+        let not = node.filter(|node| node.operator == Operator::Not)?;
+        let signal = self.signal_of(usize::from(not.x))?;
+        Some(self.names.name(signal))
     }
 
     /// From here on the text ends with the line of the token ahead.
@@ -165,7 +193,7 @@ impl<'a> Parser<'a> {
             return Some(same);
         }
         // to a single letter every other is near
-        let near = names::nearest(wrong, known.chain(["not", "nexttime", "strong", "weak"]));
+        let near = names::nearest(wrong, known.chain(PREFIXES));
         near.filter(|_| wrong.chars().count() > 1)
     }
 

@@ -142,7 +142,7 @@ impl Parser<'_> {
     }
 
     /// A part of the text as a message repeats it: its first line, cut where it is long.
-    fn excerpt(&self, from: usize, to: usize) -> String {
+    pub fn excerpt(&self, from: usize, to: usize) -> String {
         let part = self.text().get(from..to).unwrap_or_default();
         let line = part.split(['\n', '\r']).next().unwrap_or_default();
         let code = line.split("//").next().unwrap_or_default().trim_end();

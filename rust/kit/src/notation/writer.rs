@@ -121,6 +121,8 @@ impl Texts {
         match node.operator {
             Operator::Constant => primary(node.x.to_string()),
             Operator::Signal => primary(names.name(node.x)),
+            Operator::Rose => primary(format!("rose({})", names.name(node.x))),
+            Operator::Fell => primary(format!("fell({})", names.name(node.x))),
             Operator::Letter => self.0.get(usize::from(node.x)).cloned().unwrap_or_default(),
             Operator::Strong => primary(format!("strong({})", first(CLOCK))),
             Operator::Weak => primary(format!("weak({})", first(CLOCK))),

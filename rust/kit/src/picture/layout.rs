@@ -2,7 +2,7 @@
 //!
 //! From left to right: the rows' names, a column for the start, one for each sample, and the tail.
 //! From top to bottom: the heading, the flag where the level is closed, the axis, a row for each
-//! clock and for each signal, the axis once more where there are many rows, the levels, the legend.
+//! clock, for what rises or falls and for each signal, the axis once more where there are many rows, the levels, the legend.
 use super::scene::Scene;
 use super::style::{ASSERTION, FLAG, NAME};
 use super::text::{cells, room, shorten, wrap};
@@ -46,6 +46,11 @@ pub const AXIS_APART: i32 = 6;
 pub const CLOCK_ROW: i32 = 24;
 /// Half the width of a tick's mark, its height, and its distance from the upper end of its row.
 pub const TICK_MARK: (i32, i32, i32) = (5, 9, 7);
+/// The row of what rises or falls.
+pub const CHANGE_ROW: i32 = 24;
+/// The distance of an arrow from the upper end of its row, its height, and that of its head, which is
+/// half as wide.
+pub const ARROW: (i32, i32, i32) = (5, 14, 6);
 /// The row of a signal.
 pub const SIGNAL_ROW: i32 = 28;
 /// Where a signal's high and low stand in its row.
@@ -77,6 +82,8 @@ pub mod baseline {
     pub const AXIS: i32 = 13;
     /// A clock.
     pub const CLOCK: i32 = 16;
+    /// What rises or falls.
+    pub const CHANGE: i32 = 16;
     /// A signal.
     pub const SIGNAL: i32 = 19;
     /// The digits of the levels.
@@ -172,6 +179,8 @@ pub struct Down {
     pub axis: i32,
     /// The clocks.
     pub clocks: i32,
+    /// What rises and falls.
+    pub changes: i32,
     /// The signals.
     pub signals: i32,
     /// The lower end of the signals.
@@ -191,15 +200,17 @@ pub struct Down {
 impl Down {
     /// The rows of a scene whose assertion, with the decisive part, and legend have so many lines.
     fn of(scene: &Scene, assertion_lines: usize, legend_lines: usize) -> Down {
-        let (clock_rows, signal_rows) = (scene.clocks.len(), scene.signals.len());
+        let (clock_rows, change_rows) = (scene.clocks.len(), scene.changes.len());
+        let signal_rows = scene.signals.len();
         let assertion = heading::end(scene) + BREAK;
         let flag = assertion + assertion_height(assertion_lines) + BREAK;
         let closed = scene.verdict.closed().is_some();
         let axis = flag + if closed { FLAG_ROW } else { 0 };
         let clocks = axis + AXIS_ROW;
-        let signals = clocks + whole(clock_rows) * CLOCK_ROW;
+        let changes = clocks + whole(clock_rows) * CLOCK_ROW;
+        let signals = changes + whole(change_rows) * CHANGE_ROW;
         let signals_end = signals + whole(signal_rows) * SIGNAL_ROW;
-        let many = clock_rows + signal_rows > MANY_ROWS;
+        let many = clock_rows + change_rows + signal_rows > MANY_ROWS;
         let second_axis = many.then_some(signals_end);
         let levels = signals_end + if many { AXIS_ROW } else { BREAK };
         let digits = levels + 4 * STEP;
@@ -210,6 +221,7 @@ impl Down {
             flag,
             axis,
             clocks,
+            changes,
             signals,
             signals_end,
             second_axis,
@@ -262,8 +274,10 @@ impl Layout {
 /// The names at the left of the rows.
 fn row_names(scene: &Scene) -> impl Iterator<Item = String> + '_ {
     let clocks = scene.clocks.iter().map(|clock| tick_name(&clock.name));
-    let signals = scene.signals.iter().map(|signal| signal.name.clone());
-    clocks.chain(signals).chain(["sample".to_string()])
+    let changes = scene.changes.iter().map(|change| &change.trace);
+    let plain = changes.chain(&scene.signals);
+    let plain = plain.map(|trace| trace.name.clone());
+    clocks.chain(plain).chain(["sample".to_string()])
 }
 
 /// What the row of a clock is called.

@@ -1,6 +1,7 @@
-//! The verdict as a picture: an SVG with the signals, the clocks' ticks and the level after each
-//! sample.
+//! The verdict as a picture: an SVG with the signals, the clocks' ticks, what rises and falls, and the
+//! level after each sample.
 mod axis;
+mod changes;
 mod closing;
 mod heading;
 mod layout;
@@ -27,6 +28,7 @@ pub fn draw(scene: &Scene) -> String {
     heading::draw(&mut svg, scene, &layout);
     axis::draw(&mut svg, scene, &layout);
     ticks::draw(&mut svg, scene, &layout);
+    changes::draw(&mut svg, scene, &layout);
     waves::draw(&mut svg, scene, &layout);
     ticks::draw_lines(&mut svg, scene, &layout);
     levels::draw(&mut svg, scene, &layout);

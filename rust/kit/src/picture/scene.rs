@@ -1,5 +1,5 @@
 //! What a picture shows, as the judge answered it.
-use crate::assertion::Assertion;
+use crate::assertion::{Assertion, Operator};
 use crate::names::Names;
 use crate::notation;
 use crate::verdict::{self, part_words, Verdict};
@@ -8,10 +8,19 @@ use xistomar::Refusal;
 /// A row of the picture: what it is called, and at which samples it is 1.
 #[derive(Clone, Debug, PartialEq, Eq)]
 pub struct Trace {
-    /// The signal's name, or the clock's condition.
+    /// The signal's name, the clock's condition, or what rises or falls.
     pub name: String,
     /// Its value at each sample.
     pub values: Vec<bool>,
+}
+
+/// A row for a signal that rises or falls.
+#[derive(Clone, Debug, PartialEq, Eq)]
+pub struct Change {
+    /// Whether it rises.
+    pub rises: bool,
+    /// `rose(a)` or `fell(a)`, and where it is so.
+    pub trace: Trace,
 }
 
 /// What a picture shows.
@@ -23,6 +32,8 @@ pub struct Scene {
     pub decisive: String,
     /// The clocks and where they tick.
     pub clocks: Vec<Trace>,
+    /// What the assertion asks to rise or fall, but for what is a clock.
+    pub changes: Vec<Change>,
     /// The signals that are shown.
     pub signals: Vec<Trace>,
     /// The levels.
@@ -34,9 +45,17 @@ impl Scene {
     pub fn of(table: &[u8], names: &Names, samples: &[u64]) -> Result<Scene, Refusal> {
         let account = verdict::account(table, names, samples)?;
         let assertion = Assertion::of_table(table)?.tidy();
-        let clock = |condition: usize| Trace {
-            name: notation::phrase(&assertion, condition, names),
-            values: verdict::ticks(&assertion, condition, samples),
+        let boolean = |index: usize| -> Result<Trace, Refusal> {
+            Ok(Trace {
+                name: notation::phrase(&assertion, index, names),
+                values: verdict::satisfied(&assertion, index, samples)?,
+            })
+        };
+        let change = |index: usize| -> Result<Change, Refusal> {
+            Ok(Change {
+                rises: assertion.node(index).operator == Operator::Rose,
+                trace: boolean(index)?,
+            })
         };
         let signal = |number: u8| Trace {
             name: names.name(number),
@@ -45,11 +64,28 @@ impl Scene {
         Ok(Scene {
             decisive: part_words(&account),
             assertion: account.assertion,
-            clocks: assertion.clocks().into_iter().map(clock).collect(),
+            clocks: assertion
+                .clocks()
+                .into_iter()
+                .map(boolean)
+                .collect::<Result<_, _>>()?,
+            changes: changing(&assertion).map(change).collect::<Result<_, _>>()?,
             signals: shown(&assertion, names).into_iter().map(signal).collect(),
             verdict: account.verdict,
         })
     }
+}
+
+/// The nodes that ask whether a signal rises or falls. One that is a clock has its ticks drawn.
+fn changing(assertion: &Assertion) -> impl Iterator<Item = usize> + '_ {
+    let clocks = assertion.clocks();
+    let nodes = assertion.nodes().iter().enumerate();
+    let asks = move |index: usize, operator: Operator| {
+        matches!(operator, Operator::Rose | Operator::Fell) && !clocks.contains(&index)
+    };
+    nodes
+        .filter(move |(index, node)| asks(*index, node.operator))
+        .map(|(index, _)| index)
 }
 
 /// The signals that are shown: the declared ones in their order, then others that are asked about.

@@ -1,10 +1,12 @@
 //! What the judge says of the parts of an assertion, each question asked once.
-use super::ticks;
+use super::satisfied;
+use super::suffixes::Suffixes;
 use crate::assertion::Assertion;
+use std::collections::hash_map::Entry;
 use std::collections::HashMap;
 use xistomar::{Judge, Level, MatchEnds, Refusal};
 
-/// The parts of an assertion, asked on the samples from one of them on.
+/// The parts of an assertion, asked from one of the samples on.
 pub(super) struct Asked<'a> {
     assertion: &'a Assertion,
     samples: &'a [u64],
@@ -12,7 +14,8 @@ pub(super) struct Asked<'a> {
     earlier: usize,
     judge: Judge,
     tables: HashMap<usize, Vec<u8>>,
-    levels: HashMap<(usize, usize, usize), Level>,
+    /// By the node of a part and the number of samples on which it was judged.
+    levels: HashMap<(usize, usize), Suffixes>,
     ticks: HashMap<usize, Vec<bool>>,
 }
 
@@ -35,7 +38,7 @@ impl<'a> Asked<'a> {
         self.samples.len()
     }
 
-    /// The level of a property node's part on the samples from one on.
+    /// The level of a property node's part from a sample on.
     pub fn level(&mut self, node: usize, from: usize) -> Result<Level, Refusal> {
         self.level_before(node, from, self.count())
     }
@@ -50,14 +53,14 @@ impl<'a> Asked<'a> {
     }
 
     fn level_before(&mut self, node: usize, from: usize, end: usize) -> Result<Level, Refusal> {
-        if let Some(level) = self.levels.get(&(node, from, end)) {
-            return Ok(*level);
+        if let Some(levels) = self.levels.get(&(node, end)) {
+            return Ok(levels.level(from));
         }
-        let samples = self.samples.get(from..end).unwrap_or_default();
+        let samples = self.samples.get(..end).unwrap_or(self.samples);
         let table = table(&mut self.tables, self.assertion, node);
-        let level = self.judge.judge(table, samples)?.level;
-        self.levels.insert((node, from, end), level);
-        Ok(level)
+        let levels = Suffixes::of(&mut self.judge, table, samples)?;
+        self.levels.insert((node, end), levels);
+        Ok(levels.level(from))
     }
 
     /// The matches of a sequence node's part from a sample on.
@@ -67,15 +70,16 @@ impl<'a> Asked<'a> {
     }
 
     /// The samples from one on at which a property node looks: its clock's ticks, or all.
-    pub fn positions(&mut self, node: usize, from: usize) -> Vec<usize> {
+    pub fn positions(&mut self, node: usize, from: usize) -> Result<Vec<usize>, Refusal> {
         let all = from..self.count();
         let Some(clock) = self.assertion.clock(node) else {
-            return all.collect();
+            return Ok(all.collect());
         };
-        let (assertion, samples) = (self.assertion, self.samples);
-        let found = self.ticks.entry(clock);
-        let ticking = found.or_insert_with(|| ticks(assertion, clock, samples));
-        all.filter(|at| ticking.get(*at) == Some(&true)).collect()
+        let ticking = match self.ticks.entry(clock) {
+            Entry::Occupied(known) => known.into_mut(),
+            Entry::Vacant(new) => new.insert(satisfied(self.assertion, clock, self.samples)?),
+        };
+        Ok(all.filter(|at| ticking.get(*at) == Some(&true)).collect())
     }
 }
 

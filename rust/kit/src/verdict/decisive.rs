@@ -1,7 +1,7 @@
 //! The decisive part of an assertion on a record: the lowest node whose own answer explains the level.
 //!
-//! The own answer of a node at a sample is the judge's level of its part ([`Assertion::part`]) on the
-//! samples from there on. By document 01 the level of every property is made of its operands' levels
+//! The own answer of a node at a sample is the judge's level of its part ([`Assertion::part`]) from
+//! there on. By document 01 the level of every property is made of its operands' levels
 //! (n is the number of samples; under a clock, samples are ticks):
 //!
 //! | property | its level at sample i |
@@ -144,7 +144,7 @@ impl Walk<'_> {
             Operator::PropertyAnd => self.beside(x, y, Level::Strong),
             Operator::PropertyOr if not_higher => self.beside(x, y, Level::Broken),
             Operator::PropertyOr => self.first(x, y),
-            Operator::Nexttime => Ok(self.nexttime(x)),
+            Operator::Nexttime => self.nexttime(x),
             Operator::Until if not_higher => self.until_not_higher(x, y),
             Operator::Until => self.until_so_high(x, y),
             Operator::Implies if not_higher => self.implies_not_higher(x, y),
@@ -177,13 +177,13 @@ impl Walk<'_> {
         Ok(None)
     }
 
-    fn nexttime(&mut self, p: usize) -> Option<(usize, usize)> {
-        let positions = self.asked.positions(self.node, self.from);
+    fn nexttime(&mut self, p: usize) -> Next {
+        let positions = self.asked.positions(self.node, self.from)?;
         let next = match self.assertion.clock(self.node) {
             None => positions.first().map(|at| at + 1),
             Some(_) => positions.get(1).copied(),
         };
-        next.map(|next| (p, next))
+        Ok(next.map(|next| (p, next)))
     }
 
     /// As long as Q is settled at 0, P at the first sample where it has the node's level. At a sample
@@ -192,7 +192,7 @@ impl Walk<'_> {
     /// asked there.
     fn until_not_higher(&mut self, p: usize, q: usize) -> Next {
         let level = self.level()?;
-        for at in self.asked.positions(self.node, self.from) {
+        for at in self.asked.positions(self.node, self.from)? {
             if !self.asked.settled(q, at, Level::Broken)? {
                 if self.settled_rest(p, at)? {
                     return Ok(Some((q, at)));
@@ -219,7 +219,7 @@ impl Walk<'_> {
     /// where the assertion is open; where it is closed, it is a later Q that let P go.
     fn until_so_high(&mut self, p: usize, q: usize) -> Next {
         let level = self.level()?;
-        for at in self.asked.positions(self.node, self.from) {
+        for at in self.asked.positions(self.node, self.from)? {
             if self.asked.level(q, at)? == level {
                 return Ok(Some((q, at)));
             }

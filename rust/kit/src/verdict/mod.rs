@@ -6,6 +6,7 @@ mod json;
 mod object;
 mod part_words;
 mod rows;
+mod suffixes;
 #[cfg(test)]
 mod tests;
 mod words;
@@ -13,6 +14,7 @@ mod words;
 pub use account::{account, Account};
 pub use object::{object, refusal_object};
 pub use part_words::part_words;
+pub use suffixes::Suffixes;
 pub use words::{refusal_words, words};
 
 use crate::assertion::Assertion;
@@ -53,15 +55,16 @@ pub fn verdict(table: &[u8], samples: &[u64]) -> Result<Verdict, Refusal> {
     Ok(Verdict { judgement, levels })
 }
 
-/// The samples that satisfy a boolean node, asked of the judge one by one.
-pub fn ticks(assertion: &Assertion, boolean: usize, samples: &[u64]) -> Vec<bool> {
+/// Which of the samples satisfy a boolean node, asked of the judge in one call.
+pub fn satisfied(
+    assertion: &Assertion,
+    boolean: usize,
+    samples: &[u64],
+) -> Result<Vec<bool>, Refusal> {
     let table = assertion.letter(boolean).table();
-    let mut judge = Judge::new();
-    let holds = |sample: &u64| {
-        let judged = judge.judge(&table, &[*sample]);
-        judged.is_ok_and(|judgement| judgement.level == Level::Strong)
-    };
-    samples.iter().map(holds).collect()
+    let strong = Suffixes::of(&mut Judge::new(), &table, samples)?;
+    let holds = |sample| strong.level(sample) == Level::Strong;
+    Ok((0..samples.len()).map(holds).collect())
 }
 
 /// A refusal, and the file that it is of.

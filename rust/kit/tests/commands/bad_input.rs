@@ -56,7 +56,7 @@ fn damaged_records() {
 #[test]
 fn damaged_texts() {
     on_bench(|bench| {
-        for name in ["flush.svt", "p10.svt"] {
+        for name in ["flush.svt", "p10.svt", "rise.svt"] {
             let text = text(name);
             damage(bench, Kind::Text, name, text.as_bytes(), b"(9");
         }

@@ -1,5 +1,5 @@
 //! `kit show`: the text of a table, its nodes, and what it says of a refused one.
-use crate::support::{example, example_bytes, kit, record, table, Folder, Ran};
+use crate::support::{example, example_bytes, kit, record, table, table_2, Folder, Ran};
 use std::fs;
 
 /// What kit show prints of some bytes, with its status.
@@ -47,7 +47,7 @@ fn without_names_signals_are_called_by_their_numbers() {
 #[test]
 fn the_nodes_are_listed() {
     let Ran { status, out, .. } = kit(["show", &example("p10.svt"), "--nodes"]);
-    let wanted = "    \
+    let wanted = "version 1, 8 nodes\n    \
     0  op   1  x   0  y   0  signal            s0
     1  op   1  x   1  y   0  signal            s1
     2  op   1  x   2  y   0  signal            s2
@@ -58,6 +58,51 @@ fn the_nodes_are_listed() {
     7  op  40  x   2  y   6  clocked property  @(s2) strong(s0 ##1 s1)
 ";
     assert_eq!((status, out.as_str()), (0, wanted));
+}
+
+/// strong(rose(ack)), which needs version 2, and strong(ack), which does not.
+#[test]
+fn a_table_of_version_2_is_shown_and_its_version_told() {
+    let folder = Folder::new();
+    let rose = folder.file("rose.svt", table_2(&[[5, 0, 0], [16, 0, 0], [32, 1, 0]]));
+    let plain = folder.file("plain.svt", table_2(&[[1, 0, 0], [16, 0, 0], [32, 1, 0]]));
+    // the rise is not used, so that the text does without it
+    let unused = folder.file(
+        "unused.svt",
+        table_2(&[[6, 3, 0], [1, 0, 0], [16, 1, 0], [32, 2, 0]]),
+    );
+    let names = folder.file("names.txt", "signals ack\n");
+    let shown = |words: &[&str]| {
+        let ran = kit([&["show", "--names", &names], words].concat());
+        assert_eq!((ran.status, ran.err.as_str()), (0, ""));
+        ran.out
+    };
+    assert_eq!(shown(&[&rose]), "signals ack=0\n\nstrong(rose(ack))\n");
+    let comment = "// the table has version 2, and kit table writes this text as version 1: nothing in it needs more\n";
+    for table in [&plain, &unused] {
+        assert_eq!(
+            shown(&[table]),
+            format!("{comment}signals ack=0\n\nstrong(ack)\n")
+        );
+    }
+    let rows = "    0  op   5  x   0  y   0  rose              rose(ack)
+    1  op  16  x   0  y   0  letter            rose(ack)
+    2  op  32  x   1  y   0  strong            strong(rose(ack))
+";
+    assert_eq!(
+        shown(&["--nodes", &rose]),
+        format!("version 2, 3 nodes\n{rows}")
+    );
+    assert!(shown(&["--nodes", &plain]).starts_with("version 2, 3 nodes\n    0  op   1"));
+    // what is shown is read again: the first byte for byte, the second as version 1
+    for (table, version) in [(&rose, 2), (&plain, 1), (&unused, 1)] {
+        let text = folder.file("again.txt", shown(&[table]));
+        let again = folder.path("again.svt");
+        assert_eq!(kit(["table", &text, "-o", &again]).status, 0);
+        let again = fs::read(again).unwrap();
+        assert_eq!(again[3], version);
+        assert_eq!(again == fs::read(table).unwrap(), version == 2);
+    }
 }
 
 #[test]
@@ -89,7 +134,7 @@ fn what_the_judge_refuses_is_said_in_a_comment() {
 
 #[test]
 fn refusals_1_to_5_say_what_was_found() {
-    let cases: [(&[u8], &str); 9] = [
+    let cases: [(&[u8], &str); 8] = [
         (b"", "refused 1 at 0\nfewer than 6 bytes\nthe file has 0 bytes, and a table at least 6\n"),
         (b"S", "refused 1 at 0\nfewer than 6 bytes\nthe file has 1 byte, and a table at least 6\n"),
         (
@@ -104,7 +149,6 @@ fn refusals_1_to_5_say_what_was_found() {
             b"\x7fELF\x00\x00",
             "refused 2 at 0\nwrong mark\na table begins with 53 56 54, which is SVT, and this file with 7f 45 4c\n",
         ),
-        (b"SVT\x02\x01\x01", "refused 3 at 0\nversion not 1\nthe version is 258\n"),
         (b"SVT\x01\x00\x00", "refused 4 at 0\ncount 0 or over 120\nthe count is 0\n"),
         (b"SVT\x01\x00\x79", "refused 4 at 0\ncount 0 or over 120\nthe count is 121\n"),
         (
@@ -115,6 +159,17 @@ fn refusals_1_to_5_say_what_was_found() {
     for (bytes, wanted) in cases {
         assert_eq!(shown(bytes), (3, wanted.to_string()));
     }
+    // 0, 3, 257 and 258 are no version of a table
+    for bytes in [[0, 0], [3, 0], [1, 1], [2, 1]] {
+        let file = [b"SVT", &bytes[..], &[1]].concat();
+        let version = u16::from_le_bytes(bytes);
+        let reason = xistomar::check(&file).unwrap_err().reason();
+        let found = format!("the version is {version}, and that of a table is 1 or 2");
+        assert_eq!(
+            shown(&file),
+            (3, format!("refused 3 at 0\n{reason}\n{found}\n"))
+        );
+    }
     let mut long = table(&[[1, 0, 0, 0]]);
     long.resize(100_000, 0);
     assert!(shown(&long)
@@ -123,9 +178,9 @@ fn refusals_1_to_5_say_what_was_found() {
 }
 
 /// The lines after the page's words, for a table that is refused at its last node.
-fn found(nodes: &[[u8; 4]], number: u8) -> String {
-    let (status, out) = shown(&table(nodes));
-    let line = format!("refused {number} at {}\n", nodes.len() - 1);
+fn found_in(table: &[u8], number: u8) -> String {
+    let (status, out) = shown(table);
+    let line = format!("refused {number} at {}\n", table[5] - 1);
     assert_eq!(status, 3);
     assert!(out.starts_with(&line), "{out}");
     let found = out.lines().skip(2).take_while(|line| !line.is_empty());
@@ -135,9 +190,12 @@ fn found(nodes: &[[u8; 4]], number: u8) -> String {
 #[test]
 fn refusal_6_says_which_of_its_reasons_it_is() {
     let (a, letter) = ([1, 0, 0, 0], [16, 0, 0, 0]);
-    let cases: [(&[[u8; 4]], &str); 13] = [
+    let needs = "needs version 2, and this table has version 1: with 2 in byte 3 it is known";
+    let cases: [(&[[u8; 4]], &str); 15] = [
         (&[a, [99, 0, 0, 0]], "unknown operator: 99"),
-        (&[a, [5, 7, 7, 7]], "unknown operator: 5"),
+        (&[a, [7, 7, 7, 7]], "unknown operator: 7"),
+        (&[a, [5, 7, 7, 7]], &format!("unknown operator: operator 5 (rose) {needs}")),
+        (&[a, [6, 0, 0, 0]], &format!("unknown operator: operator 6 (fell) {needs}")),
         (&[[0, 2, 0, 0]], "bad x or y: x is 2, and a constant is 0 or 1"),
         (&[[1, 64, 0, 0]], "bad x or y: x is 64, and a signal is 0 to 63"),
         (&[[1, 0, 3, 0]], "bad x or y: y is 3, and it is not used here, so 0 is due"),
@@ -154,8 +212,52 @@ fn refusal_6_says_which_of_its_reasons_it_is() {
         (&[a, letter, [3, 1, 0, 0]], "operand of wrong sort: x is node 1, a sequence, where a boolean is due"),
     ];
     for (nodes, wanted) in cases {
-        assert_eq!(found(nodes, 6), wanted, "{nodes:?}");
+        assert_eq!(found_in(&table(nodes), 6), wanted, "{nodes:?}");
     }
+}
+
+#[test]
+fn refusal_6_of_what_rises_and_falls() {
+    let a = [1, 0, 0, 0];
+    let cases: [(&[[u8; 4]], &str); 7] = [
+        (
+            &[[5, 64, 0, 0]],
+            "bad x or y: x is 64, and a signal is 0 to 63",
+        ),
+        (
+            &[[6, 255, 0, 0]],
+            "bad x or y: x is 255, and a signal is 0 to 63",
+        ),
+        (
+            &[a, [5, 0, 1, 0]],
+            "bad x or y: y is 1, and it is not used here, so 0 is due",
+        ),
+        (&[a, [6, 63, 0, 9]], "fourth byte not 0: it is 9"),
+        (
+            &[[5, 0, 0, 0], [32, 0, 0, 0]],
+            "operand of wrong sort: x is node 0, a boolean, where a sequence is due",
+        ),
+        (&[a, [7, 0, 0, 0]], "unknown operator: 7"),
+        (&[a, [4, 0, 1, 0]], "operand not below: y is 1"),
+    ];
+    for (nodes, wanted) in cases {
+        assert_eq!(found_in(&table_2(nodes), 6), wanted, "{nodes:?}");
+    }
+    let (_, out) = shown(&table_2(&[a, [5, 1, 0, 0]]));
+    assert_eq!(
+        out,
+        "refused 8 at 0\nroot is a boolean\nthe root is node 1, a rose\n"
+    );
+    // in version 1 the nodes are listed with what they would be
+    let (_, out) = shown(&table(&[a, [5, 0, 0, 0], [6, 0, 0, 0]]));
+    assert!(
+        out.ends_with(
+            "\n    0  op   1  x   0  y   0  signal\n\
+             >   1  op   5  x   0  y   0  rose, of version 2\n\
+             \x20   2  op   6  x   0  y   0  fell, of version 2\n"
+        ),
+        "{out}"
+    );
 }
 
 #[test]
@@ -205,9 +307,16 @@ fn refusals_7_to_9_say_what_was_found() {
 
 #[test]
 fn cut_and_random_files_are_refused_by_their_number() {
-    let flush = example_bytes("flush.svt");
-    for length in 0..flush.len() {
-        let (status, out) = shown(&flush[..length]);
+    for name in ["flush.svt", "rise.svt"] {
+        cut_and_changed(&example_bytes(name));
+    }
+}
+
+/// Asserts that a good table is refused wherever it is cut, and shown or refused as the check says where
+/// a byte of it is another.
+fn cut_and_changed(good: &[u8]) {
+    for length in 0..good.len() {
+        let (status, out) = shown(&good[..length]);
         let number = if length < 6 { 1 } else { 5 };
         assert_eq!(status, 3);
         assert!(
@@ -215,10 +324,9 @@ fn cut_and_random_files_are_refused_by_their_number() {
             "{out}"
         );
     }
-    // every byte changed once: shown or refused as the check says
-    for place in 0..flush.len() {
-        for value in [0, 1, 16, 99, 255] {
-            let mut bytes = flush.clone();
+    for place in 0..good.len() {
+        for value in [0, 1, 2, 5, 16, 99, 255] {
+            let mut bytes = good.to_vec();
             bytes[place] = value;
             let (status, out) = shown(&bytes);
             match xistomar::check(&bytes) {
@@ -274,7 +382,7 @@ fn a_record_is_shown_sample_by_sample() {
 #[test]
 fn a_refused_record_says_what_was_found() {
     let begins = "a record begins with 53 56 57, which is SVW, and this file with";
-    let cases: [(&[u8], &str, String); 6] = [
+    let cases: [(&[u8], &str, String); 5] = [
         (
             b"SVW",
             "refused 1 at 0\nfewer than 6 bytes",
@@ -291,11 +399,6 @@ fn a_refused_record_says_what_was_found() {
             format!("{begins} 68 65 6c"),
         ),
         (
-            b"SVW\x00\x01\x00",
-            "refused 3 at 0\nversion not 1",
-            "the version is 256".into(),
-        ),
-        (
             b"SVW\x01\x00\x40",
             "refused 10 at 0\nmore than 63 samples",
             "the count is 64".into(),
@@ -309,6 +412,13 @@ fn a_refused_record_says_what_was_found() {
     ];
     for (bytes, line, found) in cases {
         assert_eq!(shown_record(bytes), (3, format!("{line}\n{found}\n")));
+    }
+    // a record stays at version 1
+    for (bytes, version) in [(b"SVW\x00\x01\x00", 256), (b"SVW\x02\x00\x00", 2)] {
+        let reason = xistomar::samples(bytes).unwrap_err().reason();
+        let found = format!("the version is {version}, and that of a record is 1");
+        let wanted = format!("refused 3 at 0\n{reason}\n{found}\n");
+        assert_eq!(shown_record(bytes), (3, wanted));
     }
 }
 

@@ -1,5 +1,5 @@
 //! `kit table`: what it writes and says, and what it does not take.
-use crate::support::{kit, table, Folder, Ran};
+use crate::support::{kit, table, table_2, Folder, Ran};
 use std::fs;
 
 const FLUSH: &str = "\
@@ -36,6 +36,34 @@ fn a_text_becomes_a_table() {
         [39, 11, 13],
     ];
     assert_eq!(fs::read(&output).unwrap(), table(&nodes));
+}
+
+/// A table that older benches cannot read is told apart.
+#[test]
+fn a_rise_makes_a_table_of_version_2() {
+    let folder = Folder::new();
+    let text = folder.file(
+        "rise.txt",
+        "signals ack=0 drop=1\nrose(ack) |-> strong(!fell(drop) & drop)\n",
+    );
+    let output = folder.path("rise.svt");
+    let Ran { status, out, err } = kit(["table", &text, "-o", &output]);
+    assert_eq!((status, err.as_str()), (0, ""));
+    let summary = "version 2, 9 nodes, 2 signals, a property";
+    let read = "rose(ack) |-> strong(!fell(drop) & drop)";
+    assert_eq!(out, format!("{output}: {summary}\nread as: {read}\n"));
+    let nodes = [
+        [5, 0, 0],
+        [6, 1, 0],
+        [2, 1, 0],
+        [1, 1, 0],
+        [3, 2, 3],
+        [16, 0, 0],
+        [16, 4, 0],
+        [32, 6, 0],
+        [37, 5, 7],
+    ];
+    assert_eq!(fs::read(&output).unwrap(), table_2(&nodes));
 }
 
 #[test]
@@ -172,6 +200,10 @@ fn files_that_are_no_texts_have_status_4() {
         ),
         (
             folder.file("t.txt", b"SVT\x01\x00\x01\x00\x00\x00\x00"),
+            "kit show",
+        ),
+        (
+            folder.file("t2.txt", b"SVT\x02\x00\x01\x00\x00\x00\x00"),
             "kit show",
         ),
     ];

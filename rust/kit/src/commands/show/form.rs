@@ -10,6 +10,8 @@ pub struct Form {
     called: &'static str,
     /// The bytes with which it begins.
     mark: &'static [u8; 3],
+    /// The versions that are known.
+    versions: &'static str,
     /// The bytes of each part.
     part: usize,
 }
@@ -18,6 +20,7 @@ pub struct Form {
 pub const TABLE: Form = Form {
     called: "table",
     mark: b"SVT",
+    versions: "1 or 2",
     part: 4,
 };
 
@@ -25,6 +28,7 @@ pub const TABLE: Form = Form {
 pub const RECORD: Form = Form {
     called: "record",
     mark: b"SVW",
+    versions: "1",
     part: 8,
 };
 
@@ -36,18 +40,20 @@ pub fn report(refusal: Refusal, found: &str) -> String {
 
 /// What was found in a file whose form is refused.
 pub fn found(bytes: &[u8], form: &Form, refusal: Refusal) -> String {
-    let Form { called, part, .. } = form;
+    let Form {
+        called,
+        versions,
+        part,
+        ..
+    } = form;
     let (count, length) = (count(bytes), length(bytes));
     match refusal.number() {
         1 => format!("the file has {length}, and a {called} at least 6"),
         2 => mark(bytes, form),
-        3 => match bytes {
-            [_, _, _, low, high, ..] => {
-                let version = u16::from_le_bytes([*low, *high]);
-                format!("the version is {version}")
-            }
-            _ => String::new(),
-        },
+        3 => {
+            let version = version(bytes);
+            format!("the version is {version}, and that of a {called} is {versions}")
+        }
         5 => {
             let wanted = 6 + part * usize::from(count);
             format!(
@@ -55,6 +61,14 @@ pub fn found(bytes: &[u8], form: &Form, refusal: Refusal) -> String {
             )
         }
         _ => format!("the count is {count}"),
+    }
+}
+
+/// The version that stands in the file.
+pub fn version(bytes: &[u8]) -> u16 {
+    match bytes {
+        [_, _, _, low, high, ..] => u16::from_le_bytes([*low, *high]),
+        _ => 0,
     }
 }
 

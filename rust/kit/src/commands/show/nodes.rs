@@ -1,15 +1,19 @@
 //! The nodes of a table, one a line.
+use super::form::version;
 use crate::assertion::{Assertion, Operator};
 use crate::names::Names;
 use crate::notation;
+use crate::words;
 
 /// What an operator is called.
-const CALLED: [(Operator, &str); 21] = [
+const CALLED: [(Operator, &str); 23] = [
     (Operator::Constant, "constant"),
     (Operator::Signal, "signal"),
     (Operator::Not, "boolean not"),
     (Operator::And, "boolean and"),
     (Operator::Or, "boolean or"),
+    (Operator::Rose, "rose"),
+    (Operator::Fell, "fell"),
     (Operator::Letter, "letter"),
     (Operator::Then, "##1"),
     (Operator::Fused, "##0"),
@@ -34,9 +38,19 @@ pub fn called(number: u8) -> &'static str {
     row.map_or("unknown operator", |(_, called)| called)
 }
 
-/// The nodes of an accepted table, each with its part of the assertion.
-pub fn accepted(assertion: &Assertion, names: &Names) -> String {
-    let mut lines = String::new();
+/// What the operator with a number is called in a table of this version.
+fn called_in(version: u16, number: u8) -> String {
+    let called = called(number);
+    match Operator::of(number) {
+        Some(known) if known.since() > version => format!("{called}, of version {}", known.since()),
+        _ => called.to_string(),
+    }
+}
+
+/// The version of an accepted table, and its nodes, each with its part of the assertion.
+pub fn accepted(table: &[u8], assertion: &Assertion, names: &Names) -> String {
+    let count = words::count(assertion.nodes().len(), "node");
+    let mut lines = format!("version {}, {count}\n", version(table));
     for (index, node) in assertion.nodes().iter().enumerate() {
         let operator = node.operator as u8;
         let part = notation::phrase(assertion, index, names);
@@ -53,8 +67,8 @@ pub fn around(table: &[u8], marked: usize) -> String {
     for (index, node) in bytes.chunks_exact(4).enumerate().take(marked + 3) {
         let mark = if index == marked { '>' } else { ' ' };
         if let [operator, x, y, fourth] = *node {
-            let words = called(operator);
-            lines.push_str(&line(mark, index, [operator, x, y, fourth], words));
+            let words = called_in(version(table), operator);
+            lines.push_str(&line(mark, index, [operator, x, y, fourth], &words));
         }
     }
     lines

@@ -1,5 +1,5 @@
 //! Why a table is refused, with what was found in it.
-use super::form::{self, count, TABLE};
+use super::form::{self, count, version, TABLE};
 use super::nodes;
 use crate::assertion::{Assertion, Operator, Sort};
 use crate::names::Names;
@@ -47,6 +47,9 @@ fn faults(table: &[u8], node: usize) -> Vec<String> {
     let Some(operator) = Operator::of(number) else {
         return vec![format!("unknown operator: {number}")];
     };
+    if operator.since() > version(table) {
+        return vec![of_later_version(operator, version(table))];
+    }
     let mut faults = bad_bytes(operator, x, y);
     if fourth != 0 {
         faults.push(format!("fourth byte not 0: it is {fourth}"));
@@ -58,6 +61,16 @@ fn faults(table: &[u8], node: usize) -> Vec<String> {
     faults
 }
 
+/// An operator that tables of this version do not know, and those of a later one do.
+fn of_later_version(operator: Operator, version: u16) -> String {
+    let number = operator as u8;
+    let (called, since) = (nodes::called(number), operator.since());
+    format!(
+        "unknown operator: operator {number} ({called}) needs version {since}, and this table has \
+         version {version}: with {since} in byte 3 it is known"
+    )
+}
+
 /// Bytes of x and y that no node with this operator has.
 fn bad_bytes(operator: Operator, x: u8, y: u8) -> Vec<String> {
     let mut faults = Vec::new();
@@ -65,7 +78,7 @@ fn bad_bytes(operator: Operator, x: u8, y: u8) -> Vec<String> {
         Operator::Constant if x > 1 => {
             faults.push(format!("bad x or y: x is {x}, and a constant is 0 or 1"));
         }
-        Operator::Signal if x > 63 => {
+        _ if operator.asks_signal() && x > 63 => {
             faults.push(format!("bad x or y: x is {x}, and a signal is 0 to 63"));
         }
         _ => {}

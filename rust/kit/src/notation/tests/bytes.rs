@@ -87,11 +87,60 @@ fn random_bytes_never_panic() {
     }
 }
 
-const TOKENS: [&str; 48] = [
-    "a", "b", "c", "a", "b", "0", "1", "strong(", "weak(", "(", ")", ")", ")", "[*0]", "[*1:$]",
-    "!", "&", "|", "##1", "##0", "not", "nexttime", "and", "or", "until", "|->", "@(c)", "@(", "@",
-    "[", "*", "]", ":", "$", "##", "2", "signals", "let", "=", ",", "\n", "//", "always", "|=>",
-    "x", "a.b", "é", "\t",
+const TOKENS: [&str; 53] = [
+    "a",
+    "b",
+    "c",
+    "rose(a)",
+    "fell(b)",
+    "0",
+    "1",
+    "strong(",
+    "weak(",
+    "(",
+    ")",
+    ")",
+    ")",
+    "[*0]",
+    "[*1:$]",
+    "!",
+    "&",
+    "|",
+    "##1",
+    "##0",
+    "not",
+    "nexttime",
+    "and",
+    "or",
+    "until",
+    "|->",
+    "@(c)",
+    "@(",
+    "@",
+    "[",
+    "*",
+    "]",
+    ":",
+    "$",
+    "##",
+    "2",
+    "signals",
+    "let",
+    "=",
+    ",",
+    "\n",
+    "//",
+    "always",
+    "|=>",
+    "x",
+    "a.b",
+    "é",
+    "\t",
+    "rose(",
+    "fell",
+    "rose(a &",
+    "fell((c))",
+    "$rose(a)",
 ];
 
 #[test]
@@ -125,6 +174,8 @@ fn good_texts_with_a_few_slips_are_a_table_or_a_mistake() {
         let Ok(assertion) = Assertion::of_table(&table) else {
             continue;
         };
+        let rising = Assertion::of_table(&rising(&table, seed)).unwrap();
+        let assertion = if seed % 2 == 0 { assertion } else { rising };
         let text = write(&assertion, &Names::none());
         for _ in 0..5 {
             let mut words: Vec<&str> = text.split(' ').collect();

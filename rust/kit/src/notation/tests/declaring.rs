@@ -71,13 +71,13 @@ fn declarations_that_are_wrong_are_shown_at_their_place() {
             "signals strong=1",
             1,
             9,
-            "strong is a word of the notation and names no signal",
+            "strong is a word of the notation and names no signal: strong_ would do",
         ),
         (
             "signals let=1",
             1,
             9,
-            "let is a word of the notation and names no signal",
+            "let is a word of the notation and names no signal: let_ would do",
         ),
         (
             "signals\nstrong(a)",
@@ -186,7 +186,7 @@ fn definitions_that_are_wrong_are_shown_at_their_place() {
             "let not = b\na",
             2,
             5,
-            "not is a word of the notation and names no signal",
+            "not is a word of the notation and names no signal: not_ would do",
         ),
         (
             "let x b\na",

@@ -2,6 +2,7 @@
 //! definition, worked out here from what the judge says of its operands.
 use super::hints::{self, Hint, FOREIGN};
 use super::*;
+use crate::verdict::Suffixes;
 use xistomar::{Judge, Level};
 
 /// A form with texts put in for its letters: P and Q, R and S, a, b and c.
@@ -151,10 +152,9 @@ fn answers(level: Level) -> Answers {
 
 /// The answers for a property, from each sample on and after the last: a tail's own answers.
 fn rows(judge: &mut Judge, text: &str, samples: &[u64]) -> Vec<Answers> {
-    let table = table(text);
+    let levels = Suffixes::of(judge, &table(text), samples).unwrap();
     let starts = 0..=samples.len();
-    let from = |start: usize| answers(judge.judge(&table, &samples[start..]).unwrap().level);
-    starts.map(from).collect()
+    starts.map(|start| answers(levels.level(start))).collect()
 }
 
 /// What the definition of a property operator is worked out from: the answers for P and Q on one
@@ -215,8 +215,10 @@ const PROPERTIES: [(&str, Definition); 8] = [
     ("P iff Q", |w| (w.not_p || w.q[0]) && (w.not_q || w.p[0])),
 ];
 
-const SOME_PROPERTIES: [&str; 10] = [
+const SOME_PROPERTIES: [&str; 12] = [
     "strong(a)",
+    "strong(rose(a) ##1 b)",
+    "weak(!fell(b))",
     "weak(a ##1 b)",
     "strong(a ##1 b)",
     "not strong(b[*1:$] ##1 a)",
@@ -254,8 +256,10 @@ fn rewritten_properties_mean_what_they_stand_for() {
     }
 }
 
-const SOME_SEQUENCES: [&str; 8] = [
+const SOME_SEQUENCES: [&str; 10] = [
     "a",
+    "rose(a)",
+    "b ##1 fell(a)[*0]",
     "a ##1 b",
     "a[*0]",
     "a[*1:$]",
@@ -470,6 +474,46 @@ fn rewritten_conditions_mean_what_they_stand_for() {
                 .map(|text| format!("{clock}({})", filled(text, &texts)))
                 .map(|text| rows(&mut judge, &text, &samples));
             assert_eq!(given, wanted, "{clock}{form}, {texts:?} on {samples:?}");
+        }
+    }
+}
+
+/// Whether a signal was 1 at the sample before, and is now, made into what a function says of it.
+type Function = fn(bool, bool) -> bool;
+
+#[test]
+fn functions_of_a_signal_mean_what_they_stand_for() {
+    let definitions: [(&str, Function); 5] = [
+        ("$rose", |before, now| !before && now),
+        ("$fell", |before, now| before && !now),
+        ("$changed", |before, now| before != now),
+        ("$stable", |before, now| before == now),
+        ("$past", |before, _| before),
+    ];
+    assert_eq!(
+        definitions.map(|row| row.0),
+        hints::FUNCTIONS.map(|row| row.0)
+    );
+    let mut judge = Judge::new();
+    // every way from one sample to the next, and both first samples
+    let records = [[0, 0, 1, 1, 0], [1, 1, 0, 0, 1]];
+    for ((_, definition), (name, hint)) in definitions.into_iter().zip(hints::FUNCTIONS) {
+        let Hint::Noted(form, instead, _) = hint else {
+            panic!("{hint:?}");
+        };
+        assert_eq!(form, format!("{name}(a)"));
+        assert_eq!(table(instead), table(&format!("({instead})")));
+        for samples in records {
+            let rows = rows(&mut judge, &format!("strong({instead})"), &samples);
+            // before the first sample all was 0
+            let befores = [0].iter().chain(&samples);
+            for ((before, now), [_, _, strong]) in befores.zip(&samples).zip(rows) {
+                assert_eq!(
+                    strong,
+                    definition(*before == 1, *now == 1),
+                    "{form} {samples:?}"
+                );
+            }
         }
     }
 }

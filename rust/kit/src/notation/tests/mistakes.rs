@@ -212,10 +212,18 @@ fn what_other_languages_write_gets_a_hint() {
         ("disable iff (a) strong(b)", 1, "resets are not part of the notation: take them out of the record"),
         ("strong(a) implies strong(b)", 11, "`P implies Q` is written `(not (P)) or (Q)`"),
         ("# a comment", 1, "comments begin with //, and delays are written ##1 and ##0"),
-        ("@(posedge a) strong(b)", 3, "edges are not part of the notation: `@(c)` ticks at each sample where c is 1; `kit record --on` takes samples at an edge"),
+        ("@(posedge a) strong(b)", 3, "`posedge c` is written `rose(c)`, as in `@(rose(c))`: c is 1, and was 0 at the sample before; `kit record --on` takes samples at an edge"),
+        ("@(negedge a) strong(b)", 3, "`negedge c` is written `fell(c)`, as in `@(fell(c))`: c is 0, and was 1 at the sample before; `kit record --on` takes samples at an edge"),
+        ("@(edge a) strong(b)", 3, "`edge c` is written `rose(c) | fell(c)`: c is not as it was at the sample before; `kit record --on` takes samples at an edge"),
         ("strong(a);", 10, "leave ; out: a declaration ends with its line, and the assertion with the text"),
         ("assert property (strong(a))", 1, "the assertion stands alone, without `assert property (..);` or a name around it"),
-        ("strong($rose(a))", 8, "functions such as $rose are not part of the notation: `!a ##1 a` is a rise of a, over two samples"),
+        ("strong($rose(a))", 8, "`$rose(a)` is written `rose(a)`, and goes by the sample before, not by the clock tick before"),
+        ("strong($rose(a, @(posedge b)))", 8, "`$rose(a)` is written `rose(a)`, and goes by the sample before, not by the clock tick before"),
+        ("@(c) $fell(a) |-> strong(b)", 6, "`$fell(a)` is written `fell(a)`, and goes by the sample before, not by the clock tick before"),
+        ("$stable(a)", 1, "`$stable(a)` is written `!(rose(a) | fell(a))`, and goes by the sample before, not by the clock tick before"),
+        ("a & $changed(b)", 5, "`$changed(a)` is written `(rose(a) | fell(a))`, and goes by the sample before, not by the clock tick before"),
+        ("a |-> strong($past(b))", 14, "`$past(a)` is written `(fell(a) | a & !rose(a))`, and goes by the sample before, not by the clock tick before"),
+        ("$onehot(a)", 1, "functions are not part of the notation, but for `rose(a)` and `fell(a)` of a signal, which stand without $"),
     ];
     for (text, column, words) in cases {
         assert_eq!(mistake(text), (2, column, words.to_string()), "{text}");

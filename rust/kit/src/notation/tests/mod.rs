@@ -1,6 +1,7 @@
 //! Tests of the notation.
 mod bytes;
 mod declaring;
+mod edges;
 mod meanings;
 mod mistakes;
 mod page;
@@ -9,7 +10,7 @@ mod round_trip;
 mod writing;
 
 use super::*;
-pub use crate::testing::{table as table_of, Random};
+pub use crate::testing::{rising, table as table_of, table_2, Random};
 
 impl Random {
     /// Samples of signals 0 to 7, at most `most` of them, thin or dense.

@@ -65,6 +65,8 @@ fn the_table_of_levels_has_the_documents_numbers() {
         let numbers: Vec<&str> = cells[1].split(", ").collect();
         assert!(numbers.contains(&number.to_string().as_str()), "{row}");
     }
+    assert_eq!([Operator::Rose as u8, Operator::Fell as u8], [5, 6]);
+    assert!(PAGE.contains("`rose(a)` and `fell(a)` are 5 and 6"));
     for word in RESERVED {
         assert!(PAGE.contains(&format!("`{word}`")), "{word}");
     }
@@ -75,9 +77,11 @@ fn the_page_says_how_other_operators_are_written() {
     for hint in [
         hints::of("always"),
         hints::of("|=>"),
+        hints::of("$past"),
         Some(hints::repetition("*0:$")),
     ] {
-        let Some(hints::Hint::Written(form, instead)) = hint else {
+        let Some(hints::Hint::Written(form, instead) | hints::Hint::Noted(form, instead, _)) = hint
+        else {
             panic!("{hint:?}");
         };
         let said = format!("`{form}` is `{instead}`");

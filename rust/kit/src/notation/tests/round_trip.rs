@@ -4,15 +4,24 @@ use super::*;
 use second::Case;
 use xistomar::Judge;
 
-/// The table of a random case of the second opinion, which grows accepted tables of every shape, and
-/// damages some of them.
+/// The accepted tables of a random case of the second opinion, which grows tables of every shape and
+/// damages some of them: as it is, and with signals that rise and fall.
+fn random_tables(seed: u64) -> Vec<Vec<u8>> {
+    let table = random_table(seed);
+    let both = table.into_iter().flat_map(|table| {
+        let rising = rising(&table, seed);
+        [table, rising]
+    });
+    both.filter(|table| xistomar::check(table).is_ok())
+        .collect()
+}
+
 fn random_table(seed: u64) -> Option<Vec<u8>> {
-    let table = match second::random_case(seed) {
-        Case::Check { table } | Case::Rewrite { table, .. } => table,
-        Case::Judge { table, .. } | Case::Ends { table, .. } => table,
-        Case::Read { .. } | Case::Program { .. } => return None,
-    };
-    xistomar::check(&table).is_ok().then_some(table)
+    match second::random_case(seed) {
+        Case::Check { table } | Case::Rewrite { table, .. } => Some(table),
+        Case::Judge { table, .. } | Case::Ends { table, .. } => Some(table),
+        Case::Read { .. } | Case::Program { .. } => None,
+    }
 }
 
 /// Names for some of the signals.
@@ -29,11 +38,9 @@ fn some_names(random: &mut Random) -> Names {
 
 #[test]
 fn a_table_that_is_shown_and_read_is_the_same_in_the_kits_order() {
-    let mut accepted = 0;
-    for seed in 0..4000 {
-        let Some(table) = random_table(seed) else {
-            continue;
-        };
+    let mut accepted = [0; 3];
+    let tables = (0..4000).flat_map(|seed| random_tables(seed).into_iter().map(move |t| (seed, t)));
+    for (seed, table) in tables {
         let random = &mut Random(seed);
         let given = Assertion::of_table(&table).unwrap();
         for names in [Names::none(), some_names(random)] {
@@ -51,10 +58,17 @@ fn a_table_that_is_shown_and_read_is_the_same_in_the_kits_order() {
             );
             // so what was read once is stable byte for byte
             assert_eq!(write(&back.assertion, &back.names), text, "seed {seed}");
+            // the version is 2 where something rises or falls, and 1 where nothing does
+            let changes = text.contains("rose(") || text.contains("fell(");
+            let version = if changes { 2 } else { 1 };
+            assert_eq!(back.assertion.table()[3], version, "seed {seed}\n{text}");
+            accepted[usize::from(version)] += 1;
         }
-        accepted += 1;
     }
-    assert!(accepted > 2000, "{accepted} accepted");
+    assert!(
+        accepted.iter().skip(1).all(|count| *count > 3000),
+        "{accepted:?}"
+    );
 }
 
 /// A table with its clocks rewritten away; none where it is refused with 13.
@@ -102,10 +116,9 @@ fn same_answers(judge: &mut Judge, one: &[u8], other: &[u8], samples: &[u64], se
 #[test]
 fn a_table_that_is_shown_and_read_has_the_same_verdict_on_every_record() {
     let (mut judge, mut compared) = (Judge::new(), 0);
-    for seed in 10_000..12_500 {
-        let Some(table) = random_table(seed) else {
-            continue;
-        };
+    let seeds = 10_000..12_500;
+    let tables = seeds.flat_map(|seed| random_tables(seed).into_iter().map(move |t| (seed, t)));
+    for (seed, table) in tables {
         // a table that is refused with 13 may come back accepted, and then there is nothing to compare
         let Some(plain) = rewritten(&table) else {
             continue;
@@ -124,5 +137,5 @@ fn a_table_that_is_shown_and_read_has_the_same_verdict_on_every_record() {
             compared += 1;
         }
     }
-    assert!(compared > 4_000, "{compared} compared");
+    assert!(compared > 8_000, "{compared} compared");
 }

@@ -8,7 +8,7 @@ use xistomar::Judge;
 
 fn boolean(random: &mut Random, builder: &mut Builder) -> Option<usize> {
     let signal = |random: &mut Random| random.below(64);
-    match random.below(5) {
+    match random.below(6) {
         0 => builder.add(Operator::Constant, random.below(2), 0),
         1 => {
             let x = boolean(random, builder)?;
@@ -18,6 +18,10 @@ fn boolean(random: &mut Random, builder: &mut Builder) -> Option<usize> {
             let (x, y) = (boolean(random, builder)?, boolean(random, builder)?);
             let operator = random.pick(&[Operator::And, Operator::Or]);
             builder.add(operator, x, y)
+        }
+        3 => {
+            let operator = random.pick(&[Operator::Rose, Operator::Fell]);
+            builder.add(operator, signal(random), 0)
         }
         _ => builder.add(Operator::Signal, signal(random), 0),
     }

@@ -1,12 +1,13 @@
 //! Tests of the pictures, read back as elements.
 mod bands;
+mod changes;
 mod elements;
 mod made;
 mod words;
 
 use super::{draw, Scene};
 use crate::names::Names;
-use crate::testing::table;
+use crate::testing::{table, table_2};
 use elements::{elements, Element};
 
 /// (ack |-> strong((!drop)[*1:$] ##0 strobe)) until strong(0)

@@ -2,14 +2,24 @@
 mod clocked;
 mod pages;
 mod random;
+mod rising;
 mod rules;
 mod said;
+mod suffixes;
 mod walk;
 
 use super::decisive::{decisive, Decisive};
 use super::verdict;
 use crate::assertion::Assertion;
-use crate::testing::table;
+use crate::testing;
+
+/// A table of these nodes, of version 2 where one of them rises or falls.
+fn table(nodes: &[[u8; 3]]) -> Vec<u8> {
+    match nodes.iter().any(|[operator, ..]| [5, 6].contains(operator)) {
+        true => testing::table_2(nodes),
+        false => testing::table(nodes),
+    }
+}
 
 /// The decisive part of a table's assertion.
 fn found(nodes: &[[u8; 3]], samples: &[u64]) -> Decisive {

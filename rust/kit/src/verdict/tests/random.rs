@@ -1,32 +1,38 @@
 //! What the decisive part promises, on random tables and records of the program `second`.
 use super::super::decisive::{decisive, Decisive};
 use super::super::{verdict, Verdict};
+use super::suffixes;
 use crate::assertion::{Assertion, Builder, Operator, Sort};
-use crate::testing::Random;
+use crate::testing::{rising, Random};
 use second::{random_case, Case};
 use xistomar::{Judge, Level};
 
-/// The cases with a property and a record that are accepted, from these seeds.
+/// The cases with a property and a record that are accepted, from these seeds: each as it is, and with
+/// signals that rise and fall.
 pub fn accepted(
     seeds: std::ops::Range<u64>,
 ) -> impl Iterator<Item = (Assertion, Vec<u64>, Verdict)> {
-    seeds.filter_map(|seed| {
-        let Case::Judge { table, samples, .. } = random_case(seed) else {
-            return None;
-        };
+    let judged = |(table, samples): (Vec<u8>, Vec<u64>)| {
         let verdict = verdict(&table, &samples).ok()?;
         let assertion = Assertion::of_table(&table).unwrap();
         Some((assertion, samples, verdict))
-    })
+    };
+    let cases = seeds.filter_map(|seed| match random_case(seed) {
+        Case::Judge { table, samples, .. } => {
+            let rising = rising(&table, seed);
+            Some([(table, samples.clone()), (rising, samples)])
+        }
+        _ => None,
+    });
+    cases.flatten().filter_map(judged)
 }
 
 /// The level of the part, asked afresh on some samples, and turned round where it stands under `not`.
 fn told(assertion: &Assertion, part: &Decisive, samples: &[u64]) -> u8 {
-    let table = assertion.part(part.node).table();
-    let judged = Judge::new().judge(&table, &samples[part.from..]).unwrap();
+    let level = suffixes::level(assertion, samples, part.node, part.from);
     match part.turned {
-        true => 3 - judged.level.number(),
-        false => judged.level.number(),
+        true => 3 - level,
+        false => level,
     }
 }
 

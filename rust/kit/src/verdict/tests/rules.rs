@@ -1,16 +1,10 @@
 //! The levels of properties by those of their operands, as the table at the head of `decisive.rs` has them,
 //! against the judge on every part and from every sample.
-use super::super::ticks;
+use super::super::satisfied;
 use super::random::accepted;
+use super::suffixes::level;
 use crate::assertion::{Assertion, Operator};
 use xistomar::{Judge, MatchEnds};
-
-/// A part's level on the samples from one on.
-fn level(assertion: &Assertion, samples: &[u64], node: usize, from: usize) -> u8 {
-    let table = assertion.part(node).table();
-    let judged = Judge::new().judge(&table, &samples[from..]);
-    judged.unwrap().level.number()
-}
 
 fn matches(assertion: &Assertion, samples: &[u64], node: usize, from: usize) -> MatchEnds {
     let table = assertion.part(node).table();
@@ -21,7 +15,7 @@ fn matches(assertion: &Assertion, samples: &[u64], node: usize, from: usize) -> 
 /// The samples from one on at which a node looks.
 fn looked_at(assertion: &Assertion, samples: &[u64], node: usize, from: usize) -> Vec<usize> {
     let ticking = match assertion.clock(node) {
-        Some(clock) => ticks(assertion, clock, samples),
+        Some(clock) => satisfied(assertion, clock, samples).unwrap(),
         None => vec![true; samples.len()],
     };
     (from..samples.len()).filter(|at| ticking[*at]).collect()
@@ -79,7 +73,7 @@ fn levels_are_made_of_the_operands_levels() {
             }
         }
     }
-    // seven operators, with a clock and without
+    // seven operators, with a clock and without, in tables of both versions
     assert_eq!(seen.len(), 14);
     assert!(seen.values().all(|count| *count > 60), "{seen:?}");
 }

@@ -1,11 +1,14 @@
 //! Bad files that look random and are the same in every run.
 
-use crate::support::{record, table, Random};
+use crate::support::{record, table, table_2, Random};
 
 impl Random {
-    /// A table whose first refusals do not apply: nodes of known operators over lower nodes.
+    /// A table of either version whose first refusals do not apply: nodes of known operators over lower
+    /// nodes. In version 1, 5 and 6 are not known.
     pub fn table(&mut self) -> Vec<u8> {
-        let operators = [1, 2, 16, 16, 17, 19, 20, 21, 22, 32, 33, 34, 37, 38, 39, 40];
+        let operators = [
+            1, 2, 5, 6, 16, 16, 17, 19, 20, 21, 22, 32, 33, 34, 37, 38, 39, 40,
+        ];
         let mut nodes = vec![[1, 0, 0]];
         for node in 1..1 + self.below(9) {
             let operator = self.pick(&operators);
@@ -13,7 +16,10 @@ impl Random {
             let two = [17, 19, 22, 37, 39, 40].contains(&operator);
             nodes.push([operator, x, if two { y } else { 0 }]);
         }
-        table(&nodes)
+        match self.below(3) {
+            0 => table(&nodes),
+            _ => table_2(&nodes),
+        }
     }
 
     /// A record with any samples, or more than there may be.
@@ -31,10 +37,10 @@ impl Random {
     }
 }
 
-pub const NOTATION: [&str; 30] = [
+pub const NOTATION: [&str; 33] = [
     "signals", "signal", "ack", "=", "0", "1", "63", "64", ",", ";", "(", ")", "@(", "strong(",
     "weak(", "not", "and", "or", "until", "nexttime", "|->", "##1", "##0", "[*0]", "[*1:$]", "!",
-    "&", "|", "assert", "#",
+    "&", "|", "assert", "#", "rose(", "fell", "$rose(",
 ];
 
 pub const CHANGES: [&str; 28] = [
