@@ -109,30 +109,30 @@ module _ (t xs : List ℕ) (ok : Built t) (first : version t ≡ 1) where
   matched-by-samples k x i =
       let n = length-pairs xs in (
         λ m.
-        let h = i .inside in
-        let ((l, _, _), _) = down t k (ok .fit k h) (i .node) in
-        let (q, e) = signals-sequence t (count t) (ok .fit) first (m .stands) (omega arith) in
-        let o = m .inside in
-        record {
-          sequence = q;
-          stands = subst (SequenceAt (nodeAt t) x) e (m .stands);
-          start = m .start;
-          end = m .end;
-          longer = m .longer;
-          inside = omega arith;
-          matches = match-by-samples free q xs none (m .start) (m .end) .0 (subst (λ (r : Seq Atom). Inside reading (pairs xs) r (m .start) (m .end)) e (m .matches));
-        },
+            let h = i .inside in
+            let ((l, _, _), _) = down t k (ok .fit k h) (i .node) in
+            let (q, e) = signals-sequence t (count t) (ok .fit) first (m .stands) (omega arith) in
+            let o = m .inside in
+            record {
+              sequence = q;
+              stands = subst (SequenceAt (nodeAt t) x) e (m .stands);
+              start = m .start;
+              end = m .end;
+              longer = m .longer;
+              inside = omega arith;
+              matches = match-by-samples free q xs none (m .start) (m .end) .0 (subst (λ (r : Seq Atom). Inside reading (pairs xs) r (m .start) (m .end)) e (m .matches));
+            },
         λ m.
-        let o = m .inside in
-        record {
-          sequence = signalsS (m .sequence);
-          stands = m .stands;
-          start = m .start;
-          end = m .end;
-          longer = m .longer;
-          inside = omega arith;
-          matches = match-by-samples free (m .sequence) xs none (m .start) (m .end) .1 (m .matches);
-        },
+            let o = m .inside in
+            record {
+              sequence = signalsS (m .sequence);
+              stands = m .stands;
+              start = m .start;
+              end = m .end;
+              longer = m .longer;
+              inside = omega arith;
+              matches = match-by-samples free (m .sequence) xs none (m .start) (m .end) .1 (m .matches);
+            },
       )
 
   tested-by-samples : Tested t xs ↔ TestedBySamples t xs
