@@ -4,20 +4,18 @@ use cells::word_at;
 use nodes::BooleanOp;
 use positions::PositionSet;
 ghost use mathlib.Core.Bool.{not, _&&_};
-ghost use mathlib.Core.List.{[]};
 ghost use Prim.Native.Nat.{_≤_, _<_};
 ghost use lib.Dec.{ltb};
-ghost use lib.ListN.{length, getD};
-ghost use Rattle.nodes.specs.declared.BooleanOp.the-variants.{Risen, Fallen};
-ghost use Rattle.positions.specs.Member.{has, Is};
+ghost use lib.ListN.{length};
+ghost use Rattle.positions.specs.Member.{Is};
 ghost use Rattle.cells.specs.Shares.{longest, bitIn, HasRow};
-ghost use Rattle.cells.specs.Bits.{booleanBit};
+ghost use Rattle.cells.specs.Bits.{signalBit, risenBit, fallenBit, booleanBit};
 ghost use Rattle.cells.specs.Ready.{readyBoolean};
 
 // The samples that have the signal s.
 fn signal_set(samples: &[u64], s: usize) -> PositionSet
     requires { ⌜ (length (now samples) ≤ longest) × (s < 64) ⌝ }
-    ensures { λ r. ⌜ Is (r .bits) (λ k. ltb k (length (now (samples .entry))) && has (getD (now (samples .entry)) k 0) s) ⌝ }
+    ensures { λ r. ⌜ Is (r .bits) (signalBit (now (samples .entry)) s) ⌝ }
 {
     let n = samples.len();
     let mut out = PositionSet::empty();
@@ -33,7 +31,7 @@ fn signal_set(samples: &[u64], s: usize) -> PositionSet
 // The samples at which the signal s has risen since the sample before: they have it, and the one before does not. The one before the first is all zero.
 fn risen_set(samples: &[u64], s: usize) -> PositionSet
     requires { ⌜ (length (now samples) ≤ longest) × (s < 64) ⌝ }
-    ensures { λ r. ⌜ Is (r .bits) (booleanBit [] (now (samples .entry)) (Risen s)) ⌝ }
+    ensures { λ r. ⌜ Is (r .bits) (risenBit (now (samples .entry)) s) ⌝ }
 {
     let high = signal_set(samples, s);
     high.without(high.up())
@@ -42,7 +40,7 @@ fn risen_set(samples: &[u64], s: usize) -> PositionSet
 // The samples at which the signal s has fallen since the sample before: they do not have it, and the one before does.
 fn fallen_set(samples: &[u64], s: usize) -> PositionSet
     requires { ⌜ (length (now samples) ≤ longest) × (s < 64) ⌝ }
-    ensures { λ r. ⌜ Is (r .bits) (booleanBit [] (now (samples .entry)) (Fallen s)) ⌝ }
+    ensures { λ r. ⌜ Is (r .bits) (fallenBit (now (samples .entry)) s) ⌝ }
 {
     let high = signal_set(samples, s);
     all_samples(samples.len()).without(high).common(high.up())

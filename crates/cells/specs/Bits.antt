@@ -19,18 +19,29 @@ use Rattle.cells.specs.Shares.{topWord, wordOf, bitIn}
 
 -- ---- boolean: word 0 has bit i where sample i satisfies it
 
+-- sample i has the signal s
+abbrev pub signalBit : List ℕ → ℕ → ℕ → Bool
+signalBit xs s i = ltb i (length xs) && has (getD xs i 0) s
+
 -- the sample before sample i; that before the first is all zero
 abbrev pub sampleBefore : List ℕ → ℕ → ℕ
 sampleBefore xs i = getD (0 ∷ xs) i 0
 
+-- at sample i the signal s has risen, has fallen since the sample before
+abbrev pub risenBit : List ℕ → ℕ → ℕ → Bool
+risenBit xs s i = ltb i (length xs) && (has (getD xs i 0) s && not (has (sampleBefore xs i) s))
+
+abbrev pub fallenBit : List ℕ → ℕ → ℕ → Bool
+fallenBit xs s i = ltb i (length xs) && (not (has (getD xs i 0) s) && has (sampleBefore xs i) s)
+
 abbrev pub booleanBit : List ℕ → List ℕ → BooleanOp → ℕ → Bool
 booleanBit rows xs (Constant v) i = ltb i (length xs) && eqb v 1
-booleanBit rows xs (Signal s) i = ltb i (length xs) && has (getD xs i 0) s
+booleanBit rows xs (Signal s) i = signalBit xs s i
 booleanBit rows xs (Not a) i = ltb i (length xs) && not (bitIn rows a 0 i)
 booleanBit rows xs (And a b) i = bitIn rows a 0 i && bitIn rows b 0 i
 booleanBit rows xs (Or a b) i = bitIn rows a 0 i || bitIn rows b 0 i
-booleanBit rows xs (Risen s) i = ltb i (length xs) && (has (getD xs i 0) s && not (has (sampleBefore xs i) s))
-booleanBit rows xs (Fallen s) i = ltb i (length xs) && (not (has (getD xs i 0) s) && has (sampleBefore xs i) s)
+booleanBit rows xs (Risen s) i = risenBit xs s i
+booleanBit rows xs (Fallen s) i = fallenBit xs s i
 
 -- ---- sequence: word i, for i from 0 to n, has bit j where samples i to j - 1 match
 

@@ -15,7 +15,6 @@ use Rattle.meaning.specs.Syntax.{Seq, Prop, strong, weak, neg, either, both, im
 use Rattle.meaning.specs.Words.{word, Tail, none, tops, bots, other}
 use Rattle.meaning.specs.Meaning.{Strong, Sat}
 use Rattle.meaning.proofs.Words.{bar-word}
-use Rattle.nodes.specs.declared.Node.the-variants.{Property}
 use Rattle.nodes.specs.declared.PropertyOp.{PropertyOp}
 use Rattle.nodes.specs.declared.PropertyOp.the-variants as op
 use Rattle.cells.specs.Shares.{topWord, longest, wordIn, bitIn, wordOf}

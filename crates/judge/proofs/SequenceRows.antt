@@ -7,7 +7,7 @@ use mathlib.Core.Logic.{inl, inr, ⊎-elim}
 use Prim.Native.Nat.{ℕ, zero, suc, _-_, _≤_, _<_}
 use native.Mathlib.Omega.{arith}
 use native.Mathlib.Decide.{decLt}
-use lib.ListN.{length, getD}
+use lib.ListN.{length}
 use borrow.Author.Tests.{le-leb, lt-leb, le-ltb, ne-eqb}
 use Rattle.telling.specs.Tells.{Tells}
 use Rattle.telling.proofs.Telling.{is-map, is-like, is-false, is-and, is-and-then, is-or, is-eq, is-lt, is-test, is-some-at, is-as}
@@ -16,7 +16,6 @@ use Rattle.meaning.specs.Words.{word, none}
 use Rattle.meaning.specs.Meaning.{satisfies, Match, last, more}
 use Rattle.meaning.proofs.Unroll.{plus-first}
 use Rattle.meaning.proofs.Words.{word-out}
-use Rattle.nodes.specs.declared.Node.the-variants.{Sequence}
 use Rattle.nodes.specs.declared.SequenceOp.{SequenceOp}
 use Rattle.nodes.specs.declared.SequenceOp.the-variants.{Letter, Then, Fused, Either, Empty, Repeat}
 use Rattle.cells.specs.Shares.{topWord, longest, wordIn, bitIn}

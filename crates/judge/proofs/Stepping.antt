@@ -1,18 +1,18 @@
 -- The meaning one step at a time, over a record's words: what an operator asks of its operands. Most laws put two readings of one computed test of
 -- `meaning` side by side. Assumes nothing.
-use mathlib.Core.Path.{_≡_, refl, subst}
+use mathlib.Core.Path.{_≡_, subst}
 use mathlib.Core.Bool.{Bool}
 use mathlib.Core.List.{List}
 use mathlib.Core.Logic.{_⊎_, inl, inr, ⊎-elim, _↔_}
-use Prim.Native.Nat.{ℕ, zero, suc, _-_, _≤_, _<_, min}
+use Prim.Native.Nat.{ℕ, suc, _-_, _≤_, _<_, min}
 use native.Mathlib.Omega.{arith}
-use native.Mathlib.Nat.{eq-or-lt-of-le, le-of-suc-le-suc}
+use native.Mathlib.Nat.{eq-or-lt-of-le}
 use lib.Dec.{T}
-use lib.ListN.{length, getD}
+use lib.ListN.{length}
 use Rattle.telling.specs.Tells.{Tells}
 use Rattle.telling.proofs.Telling.{is-map, is-and, is-or, is-imp, is-le, is-eq, is-test, is-every, is-some-at, agree, side}
 use Rattle.meaning.specs.Syntax.{Bexp, Seq, one, cat, fuse, alt, empty, plus, Prop, weak, implies, next, until, free}
-use Rattle.meaning.specs.Words.{real, word, Tail, none, tops, bots, inside, after}
+use Rattle.meaning.specs.Words.{word, Tail, none, tops, bots, inside, after}
 use Rattle.meaning.specs.Meaning.{Match, Strong, Sat, counts}
 use Rattle.meaning.proofs.Order.{match-le}
 use Rattle.meaning.proofs.Unroll.{until-step}

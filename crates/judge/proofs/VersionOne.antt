@@ -1,7 +1,7 @@
 -- Version 1 answers stay: on a table of version 1, what the judge and match ends answer and leave by pairs is what document 01 says by samples.
 -- Assumes nothing.
 use native.Mathlib.Omega.{arith}
-use mathlib.Core.Path.{_≡_, refl, _∙_, sym, subst}
+use mathlib.Core.Path.{_≡_, refl, _∙_, subst}
 use mathlib.Core.Logic.{inl, inr, ⊎-elim, _↔_}
 use mathlib.Core.Bool.{Bool}
 use mathlib.Core.List.{List, _∷_, _++_}
@@ -26,7 +26,6 @@ use Rattle.nodes.proofs.Built.{Built}
 use Rattle.nodes.proofs.Shapes.{down}
 use Rattle.table.specs.Trees.{SequenceAt, RootS, RootP}
 use Rattle.table.specs.Check as Check
-use Rattle.table.specs.Check.{Checks}
 use Rattle.table.proofs.Checking.{sound}
 use Rattle.table.proofs.VersionOne.{signals-boolean, signals-sequence, signals-property}
 use Rattle.clocks.specs.Clocks.{Clocks}
