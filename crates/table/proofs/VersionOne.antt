@@ -1,6 +1,6 @@
 -- In a table of version 1 no node reads the sample before: the tree of each node is one of signals alone. Assumes nothing.
 use native.Mathlib.Omega.{arith}
-use mathlib.Core.Path.{_≡_, refl, ap, ap₂, subst}
+use mathlib.Core.Path.{_≡_, refl, _∙_, ap, ap₂, subst}
 use mathlib.Core.List.{List}
 use Prim.Native.Nat.{ℕ, _<_, _≤_}
 use Rattle.refusal.specs.Heading.{version}
@@ -16,6 +16,19 @@ use Rattle.nodes.specs.Nodes.{nodeAt, WellFormed}
 use Rattle.nodes.proofs.Coded.{coded-as}
 use Rattle.nodes.proofs.Shapes.{Suits, down}
 use Rattle.table.specs.Trees.{BooleanAt, b-const, b-sig, b-risen, b-fallen, b-not, b-and, b-or, SequenceAt, s-one, s-cat, s-fuse, s-alt, s-empty, s-plus, s-clock, PropertyAt, p-strong, p-weak, p-neg, p-either, p-both, p-imp, p-next, p-until, p-clock}
+
+-- t is what f makes of some tree
+abbrev Made : {X Y : Type 0} → (X → Y) → Y → Type 0
+Made {X} f t = (d : X) × (t ≡ f d)
+
+-- so is a node over one such tree, over two, where h goes over the node
+module _ {X Y : Type 0} {f : X → Y} {A B : Type 0} (h : A → B) where
+  over : (c : X → A) (c′ : Y → B) → ((x : X) → c′ (f x) ≡ h (c x)) → {t : Y} → Made f t → Made h (c′ t)
+  over c c′ e (x, q) = (c x, ap c′ q ∙ e x)
+
+  overTwo : {P Q : Type 0} {g : P → Q} (c : X → P → A) (c′ : Y → Q → B) → ((x : X) (p : P) → c′ (f x) (g p) ≡ h (c x p)) → {t : Y} {u : Q}
+      → Made f t → Made g u → Made h (c′ t u)
+  overTwo c c′ e (x, q) (p, r) = (c x p, ap₂ c′ q r ∙ e x p)
 
 -- the first n nodes of a version 1 table are well formed
 module _ (s : List ℕ) (n : ℕ) (fit : (k : ℕ) → k < n → WellFormed s k) (first : version s ≡ 1) where
@@ -43,72 +56,39 @@ module _ (s : List ℕ) (n : ℕ) (fit : (k : ℕ) → k < n → WellFormed s k)
   signals-boolean (b-sig e) h = (atom _, refl)
   signals-boolean (b-risen e) h = absurd (no-risen h e)
   signals-boolean (b-fallen e) h = absurd (no-fallen h e)
-  signals-boolean {k} (b-not e p) h = let f = down s k (fit k h) e in let (b, q) = signals-boolean p (below h f) in (nott b, ap nott q)
-  signals-boolean {k} (b-and e p p′) h =
-      let (f, g) = down s k (fit k h) e in
-      let (b, q) = signals-boolean p (below h f) in
-      let (d, q′) = signals-boolean p′ (below h g) in
-      (andd b d, ap₂ andd q q′)
-  signals-boolean {k} (b-or e p p′) h =
-      let (f, g) = down s k (fit k h) e in
-      let (b, q) = signals-boolean p (below h f) in
-      let (d, q′) = signals-boolean p′ (below h g) in
-      (orr b d, ap₂ orr q q′)
+  signals-boolean {k} (b-not e p) h = let f = down s k (fit k h) e in over signalsB nott nott (λ a. refl) (signals-boolean p (below h f))
+  signals-boolean {k} (b-and e p q) h =
+      let (f, g) = down s k (fit k h) e in overTwo signalsB andd andd (λ a b. refl) (signals-boolean p (below h f)) (signals-boolean q (below h g))
+  signals-boolean {k} (b-or e p q) h =
+      let (f, g) = down s k (fit k h) e in overTwo signalsB orr orr (λ a b. refl) (signals-boolean p (below h f)) (signals-boolean q (below h g))
 
   pub signals-sequence : {k : ℕ} {r : Seq Atom} → SequenceAt (nodeAt s) k r → k < n → (q : Seq ℕ) × (r ≡ signalsS q)
   unfolding renameS
-  signals-sequence {k} (s-one e p) h = let f = down s k (fit k h) e in let (b, q) = signals-boolean p (below h f) in (one b, ap one q)
-  signals-sequence {k} (s-cat e p p′) h =
-      let (f, g) = down s k (fit k h) e in
-      let (r, q) = signals-sequence p (below h f) in
-      let (t, q′) = signals-sequence p′ (below h g) in
-      (cat r t, ap₂ cat q q′)
-  signals-sequence {k} (s-fuse e p p′) h =
-      let (f, g) = down s k (fit k h) e in
-      let (r, q) = signals-sequence p (below h f) in
-      let (t, q′) = signals-sequence p′ (below h g) in
-      (fuse r t, ap₂ fuse q q′)
-  signals-sequence {k} (s-alt e p p′) h =
-      let (f, g) = down s k (fit k h) e in
-      let (r, q) = signals-sequence p (below h f) in
-      let (t, q′) = signals-sequence p′ (below h g) in
-      (alt r t, ap₂ alt q q′)
-  signals-sequence {k} (s-empty e p) h = let f = down s k (fit k h) e in let (r, q) = signals-sequence p (below h f) in (empty r, ap empty q)
-  signals-sequence {k} (s-plus e p) h = let f = down s k (fit k h) e in let (r, q) = signals-sequence p (below h f) in (plus r, ap plus q)
-  signals-sequence {k} (s-clock e p p′) h =
-      let (f, g) = down s k (fit k h) e in
-      let (b, q) = signals-boolean p (below h f) in
-      let (r, q′) = signals-sequence p′ (below h g) in
-      (clocked b r, ap₂ clocked q q′)
+  signals-sequence {k} (s-one e p) h = let f = down s k (fit k h) e in over signalsS one one (λ a. refl) (signals-boolean p (below h f))
+  signals-sequence {k} (s-cat e p q) h =
+      let (f, g) = down s k (fit k h) e in overTwo signalsS cat cat (λ a b. refl) (signals-sequence p (below h f)) (signals-sequence q (below h g))
+  signals-sequence {k} (s-fuse e p q) h =
+      let (f, g) = down s k (fit k h) e in overTwo signalsS fuse fuse (λ a b. refl) (signals-sequence p (below h f)) (signals-sequence q (below h g))
+  signals-sequence {k} (s-alt e p q) h =
+      let (f, g) = down s k (fit k h) e in overTwo signalsS alt alt (λ a b. refl) (signals-sequence p (below h f)) (signals-sequence q (below h g))
+  signals-sequence {k} (s-empty e p) h = let f = down s k (fit k h) e in over signalsS empty empty (λ a. refl) (signals-sequence p (below h f))
+  signals-sequence {k} (s-plus e p) h = let f = down s k (fit k h) e in over signalsS plus plus (λ a. refl) (signals-sequence p (below h f))
+  signals-sequence {k} (s-clock e p q) h =
+      let (f, g) = down s k (fit k h) e in overTwo signalsS clocked clocked (λ a b. refl) (signals-boolean p (below h f)) (signals-sequence q (below h g))
 
   pub signals-property : {k : ℕ} {P : Prop Atom} → PropertyAt (nodeAt s) k P → k < n → (Q : Prop ℕ) × (P ≡ signalsP Q)
   unfolding renameP
-  signals-property {k} (p-strong e p) h = let f = down s k (fit k h) e in let (r, q) = signals-sequence p (below h f) in (strong r, ap strong q)
-  signals-property {k} (p-weak e p) h = let f = down s k (fit k h) e in let (r, q) = signals-sequence p (below h f) in (weak r, ap weak q)
-  signals-property {k} (p-neg e p) h = let f = down s k (fit k h) e in let (P, q) = signals-property p (below h f) in (neg P, ap neg q)
-  signals-property {k} (p-either e p p′) h =
-      let (f, g) = down s k (fit k h) e in
-      let (P, q) = signals-property p (below h f) in
-      let (Q, q′) = signals-property p′ (below h g) in
-      (either P Q, ap₂ either q q′)
-  signals-property {k} (p-both e p p′) h =
-      let (f, g) = down s k (fit k h) e in
-      let (P, q) = signals-property p (below h f) in
-      let (Q, q′) = signals-property p′ (below h g) in
-      (both P Q, ap₂ both q q′)
-  signals-property {k} (p-imp e p p′) h =
-      let (f, g) = down s k (fit k h) e in
-      let (r, q) = signals-sequence p (below h f) in
-      let (P, q′) = signals-property p′ (below h g) in
-      (implies r P, ap₂ implies q q′)
-  signals-property {k} (p-next e p) h = let f = down s k (fit k h) e in let (P, q) = signals-property p (below h f) in (next P, ap next q)
-  signals-property {k} (p-until e p p′) h =
-      let (f, g) = down s k (fit k h) e in
-      let (P, q) = signals-property p (below h f) in
-      let (Q, q′) = signals-property p′ (below h g) in
-      (until P Q, ap₂ until q q′)
-  signals-property {k} (p-clock e p p′) h =
-      let (f, g) = down s k (fit k h) e in
-      let (b, q) = signals-boolean p (below h f) in
-      let (P, q′) = signals-property p′ (below h g) in
-      (under b P, ap₂ under q q′)
+  signals-property {k} (p-strong e p) h = let f = down s k (fit k h) e in over signalsP strong strong (λ a. refl) (signals-sequence p (below h f))
+  signals-property {k} (p-weak e p) h = let f = down s k (fit k h) e in over signalsP weak weak (λ a. refl) (signals-sequence p (below h f))
+  signals-property {k} (p-neg e p) h = let f = down s k (fit k h) e in over signalsP neg neg (λ a. refl) (signals-property p (below h f))
+  signals-property {k} (p-either e p q) h =
+      let (f, g) = down s k (fit k h) e in overTwo signalsP either either (λ a b. refl) (signals-property p (below h f)) (signals-property q (below h g))
+  signals-property {k} (p-both e p q) h =
+      let (f, g) = down s k (fit k h) e in overTwo signalsP both both (λ a b. refl) (signals-property p (below h f)) (signals-property q (below h g))
+  signals-property {k} (p-imp e p q) h =
+      let (f, g) = down s k (fit k h) e in overTwo signalsP implies implies (λ a b. refl) (signals-sequence p (below h f)) (signals-property q (below h g))
+  signals-property {k} (p-next e p) h = let f = down s k (fit k h) e in over signalsP next next (λ a. refl) (signals-property p (below h f))
+  signals-property {k} (p-until e p q) h =
+      let (f, g) = down s k (fit k h) e in overTwo signalsP until until (λ a b. refl) (signals-property p (below h f)) (signals-property q (below h g))
+  signals-property {k} (p-clock e p q) h =
+      let (f, g) = down s k (fit k h) e in overTwo signalsP under under (λ a b. refl) (signals-boolean p (below h f)) (signals-property q (below h g))
