@@ -5,3 +5,4 @@ pub mod Shapes
 pub mod Placing
 pub mod Built
 pub mod Clocking
+pub mod Versions
