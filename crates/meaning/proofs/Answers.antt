@@ -25,7 +25,7 @@ module _ {A S : Type 0} (reads : A → S → Bool) where
       let r = some (λ j. let s = every (λ m. not (ticks reads c (w m)) || eqb m j) i (k - i) in ticks reads c (w j) && s) i (k - i) in
       ticks reads c (w k) && r
 
-  is-second : (c : Bexp A) (xs : List S) (t : Tail) (i k : ℕ) → Tells (secondB c xs t i k) (Second reads c (word xs t) i k)
+  pub is-second : (c : Bexp A) (xs : List S) (t : Tail) (i k : ℕ) → Tells (secondB c xs t i k) (Second reads c (word xs t) i k)
   unfolding secondB Second
   is-second c xs t i k =
       let w = word xs t in
@@ -118,7 +118,7 @@ module _ {A S : Type 0} (reads : A → S → Bool) where
   out-ticks c tops x = x
   out-ticks c bots x = x
 
-  second-in : (c : Bexp A) (xs : List S) (t : Tail) (i k : ℕ) → Second reads c (word xs t) i k → k < length xs
+  pub second-in : (c : Bexp A) (xs : List S) (t : Tail) (i k : ℕ) → Second reads c (word xs t) i k → k < length xs
   unfolding Second
   second-in c xs t i k s = ⊎-elim (λ x. x) (λ x. absurd (out-ticks c t (rw (word-out xs t k x) at (s .4)))) (side k (length xs))
 

@@ -13,6 +13,7 @@ pub mod Shift
 pub mod Eval
 pub mod Sequences
 pub mod Answers
+pub mod Testing
 pub mod Leveling
 pub mod Rewriting
 pub mod Entering

@@ -9,6 +9,7 @@ use lib.Dec.{T, ltb}
 use Rattle.meaning.specs.Syntax.{Bexp, const, atom, nott, andd, orr, Seq, one, cat, fuse, alt, empty, plus, clocked, Prop, strong, weak, neg, either, both, implies, next, until, under, Clock, free, on}
 use Rattle.meaning.specs.Words.{Cell, real, top, bot, end, Word, inside, isBot, flip, bar, cut, NoBot}
 use Rattle.meaning.specs.Meaning.{Plus, value, satisfies, Match, counts, ticks, Second, Strong, Sat, Topped, Accepted}
+use Rattle.meaning.specs.Tested.{UpTo, Tested}
 use Rattle.meaning.specs.Renaming.{renameB, renameS, renameP, renameC}
 use Rattle.meaning.proofs.Cells.{mapCell}
 
@@ -142,6 +143,26 @@ module _ {A B S U : Type 0} (f : A → B) (g : U → S) (reads : A → S → Boo
       × ((k : ℕ) → i ≤ k → k < j → T (counts-flipped κ (w k) e) → sat-renamed κ P w e k))
       ⊎ ((k : ℕ) → i ≤ k → T (inside-map g (w k) e) → T (counts-flipped κ (w k) e) → sat-renamed κ P w e k)
   sat-renamed κ (under c P) w = sat-renamed (on c) P w
+
+  up-to-renamed : (κ : Clock A) (P Q : Prop A) (w : Word U) → UpTo reads′ (renameC f κ) (renameP f P) (renameP f Q) w ≡ UpTo reads κ P Q (mapWord g w)
+  unfolding UpTo
+  up-to-renamed κ P Q w =
+      λ e i j.
+      (i ≤ j) × T (inside-map g (w j) e) × T (counts-renamed κ (w j) e)
+      × ((k : ℕ) → i ≤ k → k < j → T (counts-renamed κ (w k) e) → sat-renamed κ P w e k × (¬ sat-renamed κ Q w e k))
+
+  pub tested-renamed : (κ : Clock A) (P : Prop A) (w : Word U) → Tested reads′ (renameC f κ) (renameP f P) w ≡ Tested reads κ P (mapWord g w)
+  unfolding Tested renameP renameC
+  tested-renamed κ (strong r) w = refl
+  tested-renamed κ (weak r) w = refl
+  tested-renamed κ (neg P) w = tested-renamed κ P w
+  tested-renamed κ (either P Q) w = λ e i. tested-renamed κ P w e i ⊎ tested-renamed κ Q w e i
+  tested-renamed κ (both P Q) w = λ e i. tested-renamed κ P w e i ⊎ tested-renamed κ Q w e i
+  tested-renamed κ (implies r P) w = λ e i. (p : ℕ) × (i ≤ p) × match-renamed κ r w e i (suc p) × tested-renamed κ P w e p
+  tested-renamed free (next P) w = λ e i. T (inside-map g (w i) e) × tested-renamed free P w e (suc i)
+  tested-renamed (on c) (next P) w = λ e i. (k : ℕ) × second-renamed c w e i k × tested-renamed (on c) P w e k
+  tested-renamed κ (until P Q) w = λ e i. (j : ℕ) × up-to-renamed κ P Q w e i j × (tested-renamed κ P w e j ⊎ tested-renamed κ Q w e j)
+  tested-renamed κ (under c P) w = tested-renamed (on c) P w
 
   pub accepted-renamed : (κ : Clock A) (P : Prop A) → Accepted reads′ (renameC f κ) (renameP f P) ≡ Accepted reads κ P
   unfolding Accepted renameP renameC

@@ -9,12 +9,13 @@ use Rattle.positions.specs.Member.{has}
 use Rattle.meaning.specs.Syntax.{Bexp, Seq, Prop, Clock, free}
 use Rattle.meaning.specs.Words.{Word, Tail, none, tops, bots, word}
 use Rattle.meaning.specs.Meaning.{satisfies, Match, Sat, Level, Ends, Topped, Accepted}
+use Rattle.meaning.specs.Tested.{Tested, Tests}
 use Rattle.meaning.specs.Signal.{signal}
 use Rattle.meaning.specs.Pairs.{Pair, high, reading, pairsAfter, pairs}
 use Rattle.meaning.specs.Renaming.{renameC, signalsB, signalsS, signalsP, signalsC}
 use Rattle.meaning.proofs.Leveling.{same-level}
 use Rattle.meaning.proofs.Pairing.{length-pairs}
-use Rattle.meaning.proofs.Renaming.{both-ways, mapWord, satisfies-renamed, match-renamed, sat-renamed, topped-renamed, accepted-renamed}
+use Rattle.meaning.proofs.Renaming.{both-ways, mapWord, satisfies-renamed, match-renamed, sat-renamed, tested-renamed, topped-renamed, accepted-renamed}
 
 -- the samples of the pairs
 abbrev pub samples : Word Pair → Word ℕ
@@ -48,6 +49,16 @@ pub sat-by-samples : (κ : Clock ℕ) (P : Prop ℕ) (xs : List ℕ) (t : Tail) 
 sat-by-samples κ P xs t i =
     both-ways
     (ap (λ M. M i) (sat-renamed high (λ p. p .sample) signal reading (λ x p. refl) κ P (word (pairs xs) t) ∙ ap (Sat signal κ P) (samples-word xs t)))
+
+pub tested-by-samples : (κ : Clock ℕ) (P : Prop ℕ) (xs : List ℕ) (i : ℕ)
+    → Tested reading (signalsC κ) (signalsP P) (word (pairs xs) none) i ↔ Tested signal κ P (word xs none) i
+tested-by-samples κ P xs i =
+    both-ways
+    (ap (λ M. M i) (tested-renamed high (λ p. p .sample) signal reading (λ x p. refl) κ P (word (pairs xs) none) ∙ ap (Tested signal κ P) (samples-word xs none)))
+
+pub tests-by-samples : (P : Prop ℕ) (xs : List ℕ) → Tests reading (pairs xs) (signalsP P) ↔ Tests signal xs P
+unfolding renameC
+tests-by-samples P xs = tested-by-samples free P xs zero
 
 pub level-by-samples : (P : Prop ℕ) (xs : List ℕ) (m : ℕ) → Level reading (signalsP P) (pairs xs) m ↔ Level signal P xs m
 unfolding renameC

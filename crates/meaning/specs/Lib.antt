@@ -2,6 +2,7 @@
 pub mod Syntax
 pub mod Words
 pub mod Meaning
+pub mod Tested
 -- What an atom reads: a signal of a sample; of a sample and the one before it, a signal, its rise or its fall. A tree of the first kind is one of the second.
 pub mod Signal
 pub mod Pairs
@@ -10,4 +11,5 @@ pub mod Renaming
 pub mod Levels
 pub mod Rewriting
 pub mod Parts
+pub mod Reached
 pub mod Examples
