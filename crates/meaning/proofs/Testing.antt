@@ -1,7 +1,6 @@
 -- Whether a record tests an assertion, as a test that antt computes; and what "tested" comes to, by the parts that are reached. Assumes nothing.
 use mathlib.Core.Bool.{Bool, true, not, _&&_, _||_}
-use mathlib.Core.Path.{subst}
-use mathlib.Core.Logic.{_⊎_, inl, inr, ⊎-elim, _↔_}
+use mathlib.Core.Logic.{inl, inr, ⊎-elim, _↔_}
 use mathlib.Core.List.{List, _∷_}
 use Prim.Native.Nat.{ℕ, zero, suc, _-_, _≤_, _<_}
 use native.Mathlib.Omega.{arith}
@@ -9,9 +8,9 @@ use lib.Dec.{T, ltb}
 use lib.ListN.{length}
 use Rattle.telling.specs.Tells.{Tells, some, every}
 use Rattle.telling.proofs.Telling.{side, is-map, is-test, is-true, is-and, is-or, is-not, is-imp, is-and-then, is-lt, is-some, is-every}
-use Rattle.meaning.specs.Syntax.{Bexp, Seq, Prop, strong, weak, neg, either, both, implies, next, until, under, Clock, free, on}
+use Rattle.meaning.specs.Syntax.{Seq, Prop, strong, weak, neg, either, both, implies, next, until, under, Clock, free, on}
 use Rattle.meaning.specs.Words.{Word, inside, word, none}
-use Rattle.meaning.specs.Meaning.{Match, counts, Second, Sat}
+use Rattle.meaning.specs.Meaning.{Match, counts, Second}
 use Rattle.meaning.specs.Tested.{UpTo, Tested, Tests}
 use Rattle.meaning.specs.Reached.{Asks, neg-x, either-x, either-y, both-x, both-y, implies-y, next-x, next-tick, until-x, until-y, under-x, Reached, here, down, Ground, by-strong, by-weak, Direct, Guarded}
 use Rattle.meaning.proofs.Words.{word-out, word-inside}

@@ -1,3 +1,3 @@
 -- Laws of until, and of what follows a match.
 pub mod Implying
-pub mod Leading
+pub mod UntilRuns

@@ -2,16 +2,16 @@
 use mathlib.Core.Path.{_≡_}
 use mathlib.Core.Bool.{Bool, _||_, _&&_}
 use mathlib.Core.List.{List}
-use Prim.Native.Nat.{ℕ, _+_, _-_}
+use Prim.Native.Nat.{ℕ}
 use lib.Dec.{eqb, ltb}
-use Rattle.telling.specs.Tells.{some, every}
 use Rattle.meaning.specs.Words.{none, tops, bots}
 use Rattle.positions.specs.Member.{has, Is}
 use Rattle.nodes.specs.declared.PropertyOp.{PropertyOp}
 use Rattle.cells.specs.Shares.{wordIn}
 use Rattle.cells.specs.Bits.{follows, propertyBit}
 use Rattle.properties.specs.declared.Suffixes.{Suffixes}
-use Rattle.properties.specs.declared.untils.Led.{Led}
+use Rattle.runs.specs.declared.Led.{Led}
+use Rattle.runs.specs.Runs.{led}
 
 -- the three sets are the words of row p
 pub record WordsAt (rows : List ℕ) (p : ℕ) (r : Suffixes) : Type 0 where
@@ -37,15 +37,7 @@ pub record Begins (p q : ℕ) (last : Bool) (n : ℕ) (l : Led) : Type 0 where
   pub runs : Is (l .runs .bits) (λ k. has p k && ltb k n)
   pub out : Is (l .out .bits) (λ k. (has q k && ltb k n) || (last && eqb k n))
 
--- runs of twice the length d
-pub record Further (l : Led) (d : ℕ) (r : Led) : Type 0 where
-  pub runs : Is (r .runs .bits) (λ k. has (l .runs .bits) k && has (l .runs .bits) (d + k))
-  pub out : Is (r .out .bits) (λ k. has (l .out .bits) k || (has (l .runs .bits) k && has (l .out .bits) (d + k)))
-
--- the places from which a run, possibly of none, leads up to a place of l
-abbrev pub led : Led → ℕ → Bool
-led l i = some (λ j. has (l .out .bits) j && every (has (l .runs .bits)) i (j - i)) i 64
-
+-- the places from which a run leads up, for each of three
 pub record Leads (a b c : Led) (r : Suffixes) : Type 0 where
   pub neutral : Is (r .neutral .bits) (led a)
   pub weak : Is (r .weak .bits) (led b)

@@ -2,17 +2,13 @@
 use crate::Suffixes;
 use cells::all_samples;
 use positions::PositionSet;
+use runs::Led;
+use runs::further;
 ghost use mathlib.Core.Bool.{_||_};
 ghost use Prim.Native.Nat.{_≤_};
 ghost use Rattle.positions.specs.Member.{has};
 ghost use Rattle.cells.specs.Shares.{longest};
-ghost use Rattle.properties.specs.Shapes.{Begins, Further, Leads};
-
-// The runs of P of a length, and the places from which a shorter run, possibly of none, leads up to Q.
-pub struct Led {
-    pub runs: PositionSet,
-    pub out: PositionSet,
-}
+ghost use Rattle.properties.specs.Shapes.{Begins, Leads};
 
 // The runs of P below n, of length 1, and the places of Q below n; n itself is one where until is yes there.
 pub fn begun(p: PositionSet, q: PositionSet, last: bool, n: usize) -> Led
@@ -32,17 +28,6 @@ pub fn begun_in_tail(p: PositionSet, q: PositionSet, n: usize) -> Led
     ensures { λ r. ⌜ Begins (p .bits) (q .bits) (has (p .bits) n || has (q .bits) n) n r ⌝ }
 {
     begun(p, q, p.has(n) | q.has(n), n)
-}
-
-// Runs of twice the length d.
-fn further(l: Led, d: usize) -> Led
-    requires { ⌜ d ≤ longest ⌝ }
-    ensures { λ r. ⌜ Further l d r ⌝ }
-{
-    Led {
-        runs: l.runs.common(l.runs.down_by(d)),
-        out: l.out.joined(l.runs.common(l.out.down_by(d))),
-    }
 }
 
 // The places from which a run of any length leads up, for each of the three. The length doubles with each step.

@@ -1,6 +1,6 @@
 -- `properties::until_of` meets its contract: each word is P until Q of the operands' words. Assumes nothing.
 use borrow.Author.Needs.{needs}
-use Rattle.properties.proofs.Leading.{until-made}
+use Rattle.properties.proofs.UntilRuns.{until-made}
 use Rattle.properties.proofs.until_of.Statement.{statement}
 use Rattle.properties.proofs.until_of.Tie as tie
 

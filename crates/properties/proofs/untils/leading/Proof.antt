@@ -1,7 +1,7 @@
 -- `properties::untils::leading` meets its contract: after each turn the sets tell of runs of twice the length d, which ends at 64. Assumes nothing.
 use native.Mathlib.Omega.{arith}
 use Prim.Native.Nat.{_-_}
-use Rattle.properties.proofs.Leading.{Power, power-one, power-pos, power-more, Led-by, led-one, led-turn, led-all}
+use Rattle.runs.proofs.Leading.{Power, power-one, power-pos, power-more, Led-by, led-one, led-turn, led-all}
 use borrow.Author.Needs.{needs}
 use Rattle.properties.proofs.untils.leading.Statement.{statement}
 use Rattle.properties.proofs.untils.leading.Tie as tie

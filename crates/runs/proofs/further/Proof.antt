@@ -1,7 +1,7 @@
--- `properties::untils::further` meets its contract: what lies d further on, place by place. Assumes nothing.
+-- `runs::further` meets its contract: what lies d further on, place by place. Assumes nothing.
 use borrow.Author.Needs.{needs}
-use Rattle.properties.proofs.untils.further.Statement.{statement}
-use Rattle.properties.proofs.untils.further.Tie as tie
+use Rattle.runs.proofs.further.Statement.{statement}
+use Rattle.runs.proofs.further.Tie as tie
 
 returns : tie.Need-returns
 returns c = record {

@@ -1,27 +1,25 @@
--- A run of P that leads up to Q, by doubling the distance that is looked at; and P until Q as such a run. Assumes nothing.
+-- A run of P that leads up to Q, by doubling the distance that is looked at. Assumes nothing.
 use mathlib.Core.Path.{_≡_, refl, sym, ap, ap₂, _∙_}
 use mathlib.Core.Logic.{_⊎_, inl, inr, ⊎-elim}
-use mathlib.Core.Bool.{Bool, true, false, _||_, _&&_, or-false, and-true, and-false}
-use Prim.Native.Nat.{ℕ, zero, suc, _+_, _-_, _^_, _≤_, _<_}
+use mathlib.Core.Bool.{Bool, _||_, _&&_, or-false, and-true}
+use Prim.Native.Nat.{ℕ, suc, _+_, _-_, _^_, _≤_, _<_}
 use native.Mathlib.Nat.{eq-or-lt-of-le, lt-of-not-le}
 use native.Mathlib.Omega.{arith}
-use lib.Dec.{T, eqb, leb, ltb}
+use lib.Dec.{T}
 use lib.Pow.{pow-pos, pow-mono, pow-lt}
-use borrow.Author.Tests.{lt-ltb, le-ltb, eq-eqb, ne-eqb, leb-true, leb-false}
 use Rattle.telling.specs.Tells.{Tells, some, every}
 use Rattle.telling.proofs.Telling.{is-map, is-test, is-and, is-or, is-some, is-every, same-test, side}
 use Rattle.positions.specs.Member.{has, Is}
-use Rattle.properties.specs.declared.untils.Led.{Led}
-use Rattle.cells.specs.Bits.{untilFrom, untilBit}
-use Rattle.properties.specs.Shapes.{Begins, Further, led}
+use Rattle.runs.specs.declared.Led.{Led}
+use Rattle.runs.specs.Runs.{leadsUp, led, Further}
 
 -- some place of Q at a distance below d from i, with P from i up to it; and P at all those places
 unfoldable pub reach : (ℕ → Bool) → (ℕ → Bool) → ℕ → ℕ → Bool
 reach P Q d i = some (λ j. Q j && every P i (j - i)) i d
 
-reach-is : (P Q : ℕ → Bool) (d i : ℕ) → reach P Q d i ≡ some (λ j. Q j && every P i (j - i)) i d
-unfolding reach
-reach-is P Q d i = refl
+pub reach-is : (P Q : ℕ → Bool) (i : ℕ) → reach P Q 64 i ≡ leadsUp P Q i
+unfolding reach leadsUp
+reach-is P Q i = refl
 
 abbrev pub run : (ℕ → Bool) → ℕ → ℕ → Bool
 run P d i = every P i d
@@ -42,11 +40,11 @@ reach-tells P Q d i = is-some i d (λ j u v. is-and (is-test (Q j)) (run-tells P
 
 -- ---- the distance 1, and the sum of two distances
 
-run-one : (P : ℕ → Bool) (i : ℕ) → run P 1 i ≡ P i
+pub run-one : (P : ℕ → Bool) (i : ℕ) → run P 1 i ≡ P i
 unfolding every
 run-one P i = and-true (P i)
 
-reach-one : (P Q : ℕ → Bool) (i : ℕ) → reach P Q 1 i ≡ Q i
+pub reach-one : (P Q : ℕ → Bool) (i : ℕ) → reach P Q 1 i ≡ Q i
 unfolding reach some every
 reach-one P Q i =
     let e : i - i ≡ 0 = omega arith in
@@ -59,7 +57,7 @@ run-more P d e i =
     (λ (q : Run P d i × Run P e (d + i)) k u v. ⊎-elim (λ (h : k < d + i). q .0 k u (omega arith)) (λ (h : d + i ≤ k). q .1 k h (omega arith)) (side k (d + i)))
     (λ (q : Run P (d + e) i). (λ k u v. q k u (omega arith), λ k u v. q k (omega arith) (omega arith))))
 
-reach-more : (P Q : ℕ → Bool) (d e i : ℕ) → reach P Q (d + e) i ≡ (reach P Q d i || (run P d i && reach P Q e (d + i)))
+pub reach-more : (P Q : ℕ → Bool) (d e i : ℕ) → reach P Q (d + e) i ≡ (reach P Q d i || (run P d i && reach P Q e (d + i)))
 reach-more P Q d e i =
     same-test (reach-tells P Q (d + e) i)
     (is-map (is-or (reach-tells P Q d i) (is-and (run-tells P d i) (reach-tells P Q e (d + i)))) there back)
@@ -112,39 +110,4 @@ power-more d h l = record { times = suc (h .times); most = lt-of-not-le (λ (g :
 
 -- the loop has ended
 pub led-all : (l : Led) (d : ℕ) (x : Led) → Power d → 64 ≤ d → Led-by l d x → Is (x .out .bits) (led l)
-led-all l d x p g h k = h .out k ∙ rw (power-last d p g) (reach-is _ _ 64 k)
-
--- ---- P until Q: a run of P below n, up to a place of Q below n or up to n
-
--- at i itself, or one place on
-reach-now : (P Q : ℕ → Bool) (d i : ℕ) → reach P Q (suc d) i ≡ (Q i || (P i && reach P Q d (suc i)))
-reach-now P Q d i =
-    let e : suc d ≡ 1 + d = omega arith in
-    let f : 1 + i ≡ suc i = omega arith in
-    ap (λ m. reach P Q m i) e ∙ reach-more P Q 1 d i ∙ rw (reach-one P Q i, run-one P i, f)
-
-module _ (P Q P' Q' : ℕ → Bool) (last : Bool) (n : ℕ) (eP : (k : ℕ) → P' k ≡ (P k && ltb k n)) (eQ : (k : ℕ) → Q' k ≡ ((Q k && ltb k n) || (last && eqb k n))) where
-  -- at n - m
-  until-reach : (m d i : ℕ) → i + m ≡ n → m < d → reach P' Q' d i ≡ untilFrom P Q last n m
-  unfolding untilFrom
-  until-reach m zero i e l = absurd (omega arith)
-  until-reach zero (suc d) i e l =
-      reach-now P' Q' d i ∙ rw (eQ i, eP i, le-ltb i n (omega arith), eq-eqb i n (omega arith), and-false (Q i), and-false (P i), and-true last, or-false last)
-  until-reach (suc m) (suc d) i e l =
-      let at : n - suc m ≡ i = omega arith in
-      reach-now P' Q' d i
-      ∙ rw (eQ i, eP i, lt-ltb i n (omega arith), ne-eqb i n (λ (z : i ≡ n). omega arith), and-true (Q i), and-true (P i), and-false last, or-false (Q i), at, until-reach m d (suc i) (omega arith) (omega arith))
-
-  until-led : (i : ℕ) → n ≤ 63 → reach P' Q' 64 i ≡ untilBit P Q last n i
-  until-led i h = go (leb i n) refl
-    where
-      go : (t : Bool) → leb i n ≡ t → reach P' Q' 64 i ≡ (t && untilFrom P Q last n (n - i))
-      go true e = until-reach (n - i) 64 i (omega (arith, leb-true i n e)) (omega arith)
-      go false e =
-          let g = leb-false i n e in
-          reach-now P' Q' 63 i ∙ rw (eQ i, eP i, le-ltb i n (omega arith), ne-eqb i n (λ (z : i ≡ n). omega arith), and-false (Q i), and-false (P i), and-false last)
-
--- the set from which the runs lead up is P until Q
-pub until-made : (p q r : ℕ) (last : Bool) (n : ℕ) (l : Led) → n ≤ 63 → Begins p q last n l → Is r (led l) → Is r (untilBit (has p) (has q) last n)
-until-made p q r last n l h b e i =
-    e i ∙ sym (reach-is (has (l .runs .bits)) (has (l .out .bits)) 64 i) ∙ until-led (has p) (has q) (has (l .runs .bits)) (has (l .out .bits)) last n (b .runs) (b .out) i h
+led-all l d x p g h k = h .out k ∙ rw (power-last d p g) (reach-is _ _ k)

@@ -1,0 +1,2 @@
+-- Laws of runs.
+pub mod Leading

@@ -1,0 +1,2 @@
+-- Runs of places, and what they lead up to.
+pub mod Runs
