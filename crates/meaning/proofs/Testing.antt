@@ -160,8 +160,15 @@ module _ {A S : Type 0} (reads : A → S → Bool) where
 
   further : {w : Word S} {κ μ : Clock A} {P Q : Prop A} {i j : ℕ} → Asks reads w κ P i μ Q j → AskedImplication w μ Q j → AskedImplication w κ P i
   further a g = record {
-    clock = g .clock; left = g .left; right = g .right; at = g .at; reached = down a (g .reached);
-    last = g .last; longer = g .longer; matches = g .matches; tested = g .tested;
+    clock = g .clock;
+    left = g .left;
+    right = g .right;
+    at = g .at;
+    reached = down a (g .reached);
+    last = g .last;
+    longer = g .longer;
+    matches = g .matches;
+    tested = g .tested;
   }
 
   pub guarded-asked : (w : Word S) (κ : Clock A) (P : Prop A) (i : ℕ) → Guarded P → Tested reads κ P w i → AskedImplication w κ P i
@@ -174,7 +181,15 @@ module _ {A S : Type 0} (reads : A → S → Bool) where
   guarded-asked w κ (both P Q) i g (inl t) = further both-x (guarded-asked w κ P i (g .0) t)
   guarded-asked w κ (both P Q) i g (inr t) = further both-y (guarded-asked w κ Q i (g .1) t)
   guarded-asked w κ (implies r P) i g (p, u, m, t) = record {
-    clock = κ; left = r; right = P; at = i; reached = here; last = p; longer = u; matches = m; tested = t;
+    clock = κ;
+    left = r;
+    right = P;
+    at = i;
+    reached = here;
+    last = p;
+    longer = u;
+    matches = m;
+    tested = t;
   }
   guarded-asked w free (next P) i g (z, t) = further (next-x z) (guarded-asked w free P (suc i) g t)
   guarded-asked w (on c) (next P) i g (k, s, t) = further (next-tick s) (guarded-asked w (on c) P k g t)

@@ -2,5 +2,5 @@
 pub mod Rewrites
 -- What rewriting keeps.
 pub mod Keeps
--- What the code answers with a refusal.
+-- What the code answers with a refusal, and what it hands on of each node.
 pub mod Computed

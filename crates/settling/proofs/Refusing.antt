@@ -24,11 +24,12 @@ use Rattle.table.specs.Check as Check
 use Rattle.table.specs.Check.{Checks}
 use Rattle.nodes.proofs.Built.{Built}
 use Rattle.table.proofs.Checking.{checks-none, not-of-table, sound}
-use Rattle.rewrite.specs.declared.Rewriting.{Rewriting}
+use Rattle.rewrite.specs.declared.Renumbered.{Renumbered}
 use Rattle.numbers.specs.Numbers.{newCount}
 use Rattle.writing.specs.Tables.{newTable}
 use Rattle.rewrite.specs.Rewrites.{OfClocks, tooMany, Rewrites}
 use Rattle.rewrite.specs.Rewrites as Rewrites
+use Rattle.rewrite.specs.Computed.{rewritingOf, Renumbers}
 use Rattle.clocks.proofs.Timing.{clocks-unique}
 use Rattle.rewrite.proofs.Deciding.{few-new}
 use Rattle.rewrite.proofs.Theorems.{output-is}
@@ -72,7 +73,10 @@ module _ (other many : Bool) (n start words least : ℕ) where
 
 -- ---- all of them
 
-module _ (s : List ℕ) (wrong n start words : ℕ) (d : List ℕ) (room : length d ≡ 486) (r : Rewriting) (d′ : List ℕ) (w : Rewrites s d r d′) where
+module _ (s : List ℕ) (wrong n start words : ℕ) (d : List ℕ) (room : length d ≡ 486) (r : Renumbered) (d′ : List ℕ) (found : Renumbers s d r d′) where
+  w : Rewrites s d (rewritingOf r) d′
+  w = found .rewrites
+
   abbrev v : Verdict
   v = r .verdict
 
@@ -115,7 +119,7 @@ module _ (s : List ℕ) (wrong n start words : ℕ) (d : List ℕ) (room : lengt
   asked = is-and (is-not (is-eq (v .number) 0)) (is-not (is-eq (v .number) 13))
 
   pub of-table : ofTable ≡ true → Settles s wrong n start words d r d′
-  of-table t = let (z, h) = asked .to (passed t) in record { answer = stopped z h; rewriting = r; rewrites = w; count = refl; accepted = λ y. absurd (z y) }
+  of-table t = let (z, h) = asked .to (passed t) in record { answer = stopped z h; rewriting = rewritingOf r; rewrites = w; count = refl; numbered = λ y. absurd (z y); accepted = λ y. absurd (z y) }
 
   -- with none of them the table is accepted
   module _ (none-of-them : ofTable ≡ false) where
@@ -190,13 +194,14 @@ module _ (s : List ℕ) (wrong n start words : ℕ) (d : List ℕ) (room : lengt
       unfolding ownCases
       accepted-both u eu y = accepts (failed many-tells (none cases tt (sym (ap (λ (v : Verdict). v .number) eu) ∙ y) .1 .0))
 
-      pub settled : (u : Verdict) → u ≡ firstCase cases → Settles s wrong n start words d (record { verdict = u; count = r .count }) d′
+      pub settled : (u : Verdict) → u ≡ firstCase cases → Settles s wrong n start words d (record { verdict = u; count = r .count; clocks = r .clocks; numbers = r .numbers }) d′
       unfolding settling
       settled u eu = record {
         answer = answers-beyond (Check.refusals s) own u (passed-by .0) (subst (Answers own) (sym eu) (answers cases own decides));
-        rewriting = r;
+        rewriting = rewritingOf r;
         rewrites = w;
         count = refl;
+        numbered = λ y. found .numbered (accepted-both u eu y);
         accepted = λ y. left (accepted-both u eu y);
       }
         where
@@ -204,4 +209,4 @@ module _ (s : List ℕ) (wrong n start words : ℕ) (d : List ℕ) (room : lengt
           left z =
               let (clock, right, e) = w .accepted z in
               let same : 4 * r .count + 6 ≡ 6 + 4 * r .count = omega arith in
-              (clock, right, (e .0, rw same (sym (output-is s d r d′ w z clock e))))
+              (clock, right, (e .0, rw same (sym (output-is s d (rewritingOf r) d′ w z clock e))))

@@ -9,7 +9,9 @@ use Rattle.refusal.specs.First.{Refusal, Answers}
 use Rattle.refusal.specs.Computed.{Case, at0}
 use Rattle.table.specs.Check as Check
 use Rattle.rewrite.specs.declared.Rewriting.{Rewriting}
+use Rattle.rewrite.specs.declared.Renumbered.{Renumbered}
 use Rattle.numbers.specs.Numbers.{newCount}
+use Rattle.numbers.specs.Computed.{Numbered}
 use Rattle.writing.specs.Tables.{newTable}
 use Rattle.rewrite.specs.Rewrites.{OfClocks, Rewrites}
 use Rattle.cells.specs.Shares.{longest}
@@ -28,12 +30,13 @@ unfoldable pub settling : List ℕ → ℕ → ℕ → ℕ → ℕ → List Refu
 settling s wrong n start words = Check.refusals s ++ ownRefusals s wrong n start words
 
 -- of the bytes d lent, the answer r and the bytes d′ left
-pub record Settles (s : List ℕ) (wrong n start words : ℕ) (d : List ℕ) (r : Rewriting) (d′ : List ℕ) : Type 0 where
+pub record Settles (s : List ℕ) (wrong n start words : ℕ) (d : List ℕ) (r : Renumbered) (d′ : List ℕ) : Type 0 where
   -- the first that applies
   pub answer : Answers (settling s wrong n start words) (r .verdict)
   -- the count and the bytes are as rewriting answers and leaves them
   pub rewriting : Rewriting
   pub rewrites : Rewrites s d rewriting d′
   pub count : r .count ≡ rewriting .count
-  -- with none, the rewritten table
+  -- with none, the rewritten table, and the clock and the new number of each node
+  pub numbered : r .verdict .number ≡ 0 → Numbered s (r .clocks) (r .numbers)
   pub accepted : r .verdict .number ≡ 0 → OfClocks s (λ clock. (r .count ≡ newCount s clock) × (take (4 * r .count + 6) d′ ≡ newTable s clock))

@@ -4,8 +4,8 @@ use cells::SHARE;
 use nodes::sort_at;
 use refusal::Verdict;
 use refusal::wide;
-use rewrite::Rewriting;
-use rewrite::rewrite;
+use rewrite::Renumbered;
+use rewrite::rewrite_numbered;
 ghost use mathlib.Core.Path.{_≡_};
 ghost use lib.ListN.{length};
 ghost use Rattle.refusal.specs.Computed.{firstCase};
@@ -56,7 +56,8 @@ fn own_refusal(
 }
 
 // The first refusal that applies of 1 to 9, 12, 13, 10, 14 and 11, where `wrong` is the sort that the root must not have; with none, the rewritten table in
-// the first bytes of `new`, which has room for 120 nodes, and its count. 12 comes before 13, so the root is asked before a 13 of rewriting is passed on.
+// the first bytes of `new`, which has room for 120 nodes, its count, and the clock and the new number of each node. 12 comes before 13, so the root is asked
+// before a 13 of rewriting is passed on.
 pub fn settle(
     b: &[u8],
     wrong: u8,
@@ -64,18 +65,18 @@ pub fn settle(
     start: usize,
     words: usize,
     new: &mut [u8],
-) -> Rewriting
+) -> Renumbered
     requires { ⌜ length (now new) ≡ 486 ⌝ }
     ensures { λ r. ⌜ Settles (now (b .entry)) wrong n start words (now (new .entry)) r (now (new .exit)) ⌝ }
 {
-    let rewriting = rewrite(b, new);
-    let v = rewriting.verdict;
+    let found = rewrite_numbered(b, new);
+    let v = found.verdict;
     let of_the_table = (v.number != 0) & (v.number != 13);
     if of_the_table {
-        return rewriting;
+        return found;
     }
     let root = wide(b[5]) - 1;
-    let count = rewriting.count;
+    let count = found.count;
     let verdict = own_refusal(
         sort_at(b, root) == wrong,
         v.number != 0,
@@ -84,5 +85,12 @@ pub fn settle(
         words,
         SHARE * count,
     );
-    Rewriting { verdict, count }
+    let clocks = found.clocks;
+    let numbers = found.numbers;
+    Renumbered {
+        verdict,
+        count,
+        clocks,
+        numbers,
+    }
 }

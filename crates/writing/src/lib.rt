@@ -10,7 +10,6 @@ use nodes::sort_at;
 use numbers::Counts;
 use numbers::length_under;
 use numbers::low;
-use numbers::numbers_of;
 ghost use mathlib.Core.Path.{_≡_};
 ghost use mathlib.Core.Bool.{cond};
 ghost use Prim.Native.Nat.{_+_, _*_, _<_, _≤_};
@@ -19,7 +18,7 @@ ghost use lib.ListN.{length, getD};
 ghost use Rattle.refusal.specs.Heading.{count};
 ghost use Rattle.nodes.specs.Operators.{none};
 ghost use Rattle.nodes.specs.Computed.{namedBy};
-ghost use Rattle.clocks.specs.Computed.{clockBy, Timed};
+ghost use Rattle.clocks.specs.Computed.{clockBy};
 ghost use Rattle.numbers.specs.Numbers.{newCount, lengthOf};
 ghost use Rattle.numbers.specs.Computed.{CountsOf, Numbered};
 ghost use Rattle.writing.specs.Tables.{heading, fourBytes, blockOf, newTable};
@@ -126,13 +125,12 @@ fn put_heading(b: &[u8], out: &mut [u8], m: usize)
 }
 
 // Writes the whole new table.
-pub fn put_table(b: &[u8], n: usize, clocks: &[u8], counts: Counts, out: &mut [u8])
-    requires { ⌜ Timed (now b) (now clocks) × (n ≡ count (now b)) ⌝ }
+pub fn put_table(b: &[u8], n: usize, clocks: &[u8], numbers: &[u8], counts: Counts, out: &mut [u8])
+    requires { ⌜ Numbered (now b) (now clocks) (now numbers) × (n ≡ count (now b)) ⌝ }
     requires { ⌜ CountsOf (now b) (now clocks) counts × TableFits (counts .all) (now out) ⌝ }
     ensures { λ _. ⌜ now (out .exit) ≡ put (now (out .entry)) 0 (newTable (now (b .entry)) (clockBy (now (clocks .entry)))) ⌝ }
 {
-    let numbers = numbers_of(b, n, clocks, counts);
     put_heading(b, out, counts.all);
-    put_pass(b, n, clocks, &numbers, true, out, 0);
-    put_pass(b, n, clocks, &numbers, false, out, counts.booleans);
+    put_pass(b, n, clocks, numbers, true, out, 0);
+    put_pass(b, n, clocks, numbers, false, out, counts.booleans);
 }

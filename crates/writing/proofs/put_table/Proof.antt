@@ -70,10 +70,7 @@ put-table-spec =
     tie.close
     (tie.spec
     (λ c κs. search needs)
-    (λ c κs. search needs)
-    (λ c. search needs)
     (λ c κs. (search needs, (search first, (search few, search (room, needs)))))
-    (λ c. search needs)
     (λ c κs. (search needs, (search second, (search few, search (room, needs)))))
     (λ c. search needs)
     (λ c. search written))

@@ -1,4 +1,4 @@
--- `rewrite::rewrite` meets its contract. The sections follow the code: each adds what one more test gives, and has the answer where the next one
+-- `rewrite::rewrite_numbered` meets its contract. The sections follow the code: each adds what one more test gives, and has the answer where the next one
 -- stops. Assumes nothing.
 use borrow.Author.Needs.{needs}
 use borrow.Author.Tests.{lt-ltb, le-ltb}
@@ -17,20 +17,26 @@ use Rattle.clocks.specs.Clocks.{Clocks}
 use Rattle.clocks.specs.Computed.{clockBy, AcceptedTable, Timed}
 use Rattle.numbers.specs.declared.Counts.{Counts}
 use Rattle.numbers.specs.Numbers.{newCount}
-use Rattle.numbers.specs.Computed.{CountsOf}
+use Rattle.numbers.specs.Computed.{CountsOf, Numbered}
 use Rattle.writing.specs.Tables.{newTable}
 use Rattle.writing.specs.Computed.{put}
 use Rattle.writing.proofs.Lengths.{length-table}
 use Rattle.rewrite.specs.declared.Rewriting.{Rewriting}
+use Rattle.rewrite.specs.declared.Renumbered.{Renumbered}
 use Rattle.rewrite.specs.Rewrites.{Rewrites}
-use Rattle.rewrite.specs.Computed.{refusedRewriting}
+use Rattle.rewrite.specs.Computed.{rewritingOf, refusedRewriting, Renumbers}
 use Rattle.rewrite.proofs.Deciding.{checks-accepted, size, size-is, table-stops, table-passes, answered, declines}
-use Rattle.rewrite.proofs.rewrite.Statement.{statement}
-use Rattle.rewrite.proofs.rewrite.Tie as tie
+use Rattle.rewrite.proofs.rewrite_numbered.Statement.{statement}
+use Rattle.rewrite.proofs.rewrite_numbered.Tie as tie
+
+-- a refusal hands on nothing
+stopped : (s d : List ℕ) (r : Renumbered) (number node : ℕ) → rewritingOf r ≡ refusedRewriting number node → ¬ (number ≡ 0) → Rewrites s d (refusedRewriting number node) d
+    → Renumbers s d r d
+stopped s d r number node er h w = record { rewrites = rw er w; numbered = λ z. absurd (h (sym (ap (λ (a : Rewriting). a .verdict .number) er) ∙ z)) }
 
 module _ (s : List ℕ) (v : Verdict) (ev : Checks s v) where
-  opening : ¬ (v .number ≡ 0) → (d : List ℕ) (r : Rewriting) → r ≡ refusedRewriting (v .number) (v .node) → Rewrites s d r d
-  opening h d r er = rw er (declines s d (refusedRewriting (v .number) (v .node)) (table-stops s (length d) v ev h) h refl)
+  opening : ¬ (v .number ≡ 0) → (d : List ℕ) (r : Renumbered) → rewritingOf r ≡ refusedRewriting (v .number) (v .node) → Renumbers s d r d
+  opening h d r er = stopped s d r (v .number) (v .node) er h (declines s d (refusedRewriting (v .number) (v .node)) (table-stops s (length d) v ev h) h refl)
 
   module _ (h : v .number ≡ 0) where
     built : Built s
@@ -53,19 +59,19 @@ module _ (s : List ℕ) (v : Verdict) (ev : Checks s v) where
         counted : size s ≡ m
         counted = size-is s (table .checks) (clockBy clocks) right ∙ sym (er .all)
 
-        many : 120 < m → (a : Rewriting) → a ≡ refusedRewriting 13 0 → Rewrites s d a d
-        many g a ea = rw ea (declines s d (refusedRewriting 13 0) (sym (table-passes s (length d) v ev h ∙ stop _ _ _ (rw counted (lt-ltb 120 m g)))) (λ z. omega arith) refl)
+        many : 120 < m → (a : Renumbered) → rewritingOf a ≡ refusedRewriting 13 0 → Renumbers s d a d
+        many g a ea = stopped s d a 13 0 ea (λ z. omega arith) (declines s d (refusedRewriting 13 0) (sym (table-passes s (length d) v ev h ∙ stop _ _ _ (rw counted (lt-ltb 120 m g)))) (λ z. omega arith) refl)
 
         module _ (few : m ≤ 120) where
-          small : length d < 4 * m + 6 → (a : Rewriting) → a ≡ refusedRewriting 15 0 → Rewrites s d a d
+          small : length d < 4 * m + 6 → (a : Renumbered) → rewritingOf a ≡ refusedRewriting 15 0 → Renumbers s d a d
           small g a ea =
-              rw ea
+              stopped s d a 15 0 ea (λ z. omega arith)
               (declines s d (refusedRewriting 15 0) (sym (table-passes s (length d) v ev h ∙ skip _ _ _ (rw counted (le-ltb 120 m few)) ∙ stop _ _ _ (rw counted (lt-ltb (length d) (6 + 4 * m) (omega arith)))))
               (λ z. omega arith) refl)
 
-          done : 4 * m + 6 ≤ length d → (d′ : List ℕ) → d′ ≡ put d 0 (newTable s (clockBy clocks)) → Rewrites s d (record { verdict = accepted; count = m }) d′
+          rewritten : 4 * m + 6 ≤ length d → (d′ : List ℕ) → d′ ≡ put d 0 (newTable s (clockBy clocks)) → Rewrites s d (record { verdict = accepted; count = m }) d′
           unfolding put
-          done g d′ e =
+          rewritten g d′ e =
               let l = length-table s (clockBy clocks) (built .fit) in
               let j : 0 + length (newTable s (clockBy clocks)) ≡ 6 + 4 * newCount s (clockBy clocks) = omega arith in
               record {
@@ -74,8 +80,12 @@ module _ (s : List ℕ) (v : Verdict) (ev : Checks s v) where
                 refused = λ z. absurd (z refl);
               }
 
-pub rewrite-spec : {M : Type 1} → statement M
-rewrite-spec =
+          done : 4 * m + 6 ≤ length d → (d′ : List ℕ) → d′ ≡ put d 0 (newTable s (clockBy clocks)) → (numbers : List ℕ) → Numbered s clocks numbers
+              → Renumbers s d (record { verdict = accepted; count = m; clocks = clocks; numbers = numbers }) d′
+          done g d′ e numbers en = record { rewrites = rewritten g d′ e; numbered = λ _. en }
+
+pub rewrite-numbered-spec : {M : Type 1} → statement M
+rewrite-numbered-spec =
     tie.close
     (tie.spec
     (λ c κs. search needs)
@@ -94,5 +104,8 @@ rewrite-spec =
     (λ c. search small)
     (λ c. search needs)
     (λ c κs. ((search timed, search needs), search needs))
+    (λ c. search needs)
+    (λ c. search needs)
+    (λ c κs. search needs)
     (λ c. search needs)
     (λ c. search done))
