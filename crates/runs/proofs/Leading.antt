@@ -1,5 +1,5 @@
 -- A run of P that leads up to Q, by doubling the distance that is looked at. Assumes nothing.
-use mathlib.Core.Path.{_≡_, refl, sym, ap, ap₂, _∙_}
+use mathlib.Core.Path.{_≡_, refl, sym, ap, ap₂, _∙_, fun-ext}
 use mathlib.Core.Logic.{_⊎_, inl, inr, ⊎-elim}
 use mathlib.Core.Bool.{Bool, _||_, _&&_, or-false, and-true}
 use Prim.Native.Nat.{ℕ, suc, _+_, _-_, _^_, _≤_, _<_}
@@ -111,3 +111,8 @@ power-more d h l = record { times = suc (h .times); most = lt-of-not-le (λ (g :
 -- the loop has ended
 pub led-all : (l : Led) (d : ℕ) (x : Led) → Power d → 64 ≤ d → Led-by l d x → Is (x .out .bits) (led l)
 led-all l d x p g h k = h .out k ∙ rw (power-last d p g) (reach-is _ _ k)
+
+-- ---- sets that are known by their places
+
+pub led-as : (P Q : ℕ → Bool) (x y z : ℕ) → Is x P → Is y Q → Is z (leadsUp (has x) (has y)) → Is z (leadsUp P Q)
+led-as P Q x y z ex ey ez k = ez k ∙ ap₂ (λ f g. leadsUp f g k) (fun-ext ex) (fun-ext ey)

@@ -1,0 +1,2 @@
+-- Laws of the sets.
+pub mod Setting

@@ -1,0 +1,26 @@
+-- `tested::until_set` meets its contract: a run of places where P holds and Q does not, or that are no ticks, leads up to a tick of the set. Assumes nothing.
+use borrow.Author.Needs.{needs}
+use Rattle.tested.proofs.Setting.{until-made}
+use Rattle.tested.proofs.until_set.Statement.{statement}
+use Rattle.tested.proofs.until_set.Tie as tie
+
+pub until-set-spec : {M : Type 1} → statement M
+until-set-spec =
+    tie.close
+    (tie.spec
+    (λ c κs. search needs)
+    (λ c κs. search needs)
+    (λ c κs. search needs)
+    (λ c κs. search needs)
+    (λ c κs. search needs)
+    (λ c κs. search needs)
+    (λ c κs. search needs)
+    (λ c κs. search needs)
+    (λ c.
+    let out = c .before in
+    let joined = out .before in
+    let others = joined .before in
+    let holds = others .before in
+    let second = holds .before in
+    let first = second .before in
+    until-made _ _ _ _ _ _ _ _ _ _ _ _ _ (first .before .ticks-of .ensures) (first .word-at .ensures) (second .word-at2 .ensures) (holds .without .ensures) (others .others .ensures) (joined .joined .ensures) (out .common .ensures) (c .lead .ensures)))

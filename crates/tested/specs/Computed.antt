@@ -1,0 +1,114 @@
+-- The positions from which each node of a clocked table is tested, place by place, from the rows of the rewritten table and the sets of the nodes below.
+-- `judge/proofs` shows that each rule is what document 02 says. n is the number of samples. Assumes nothing.
+use mathlib.Core.Path.{_≡_}
+use mathlib.Core.Bool.{Bool, false, not, cond, _||_, _&&_}
+use mathlib.Core.List.{List, [], _∷_, _++_}
+use Prim.Native.Nat.{ℕ, zero, suc, _+_, _*_, _-_, _<_, _≤_}
+use lib.Dec.{eqb, leb, ltb}
+use lib.ListN.{length, getD}
+use Rattle.telling.specs.Tells.{some}
+use Rattle.positions.specs.Member.{has}
+use Rattle.refusal.specs.Heading.{count}
+use Rattle.nodes.specs.declared.Node.{Node}
+use Rattle.nodes.specs.declared.Node.the-variants.{Boolean, Sequence, Property}
+use Rattle.nodes.specs.declared.PropertyOp.{PropertyOp}
+use Rattle.nodes.specs.declared.PropertyOp.the-variants.{Strong, Weak, Negated, AnyOf, BothOf, Implies, Next, Until, Ticked}
+use Rattle.nodes.specs.Nodes.{rawAt, nodeAt}
+use Rattle.nodes.specs.Computed.{namedBy}
+use Rattle.cells.specs.Shares.{longest, bitIn, HasRow}
+use Rattle.cells.specs.Bits.{lastLetter}
+use Rattle.cells.specs.Stored.{set64}
+use Rattle.runs.specs.Runs.{leadsUp}
+use Rattle.tested.specs.declared.Standing.{Standing}
+
+-- ---- a node's set, where X and Y are those of its operands
+
+-- the positions at which it looks: with no clock (255) every sample, else those that satisfy the condition
+abbrev pub isTick : List ℕ → ℕ → Standing → ℕ → Bool
+isTick rows n at i = cond (eqb (at .clock) 255) (ltb i n) (bitIn rows (at .condition) 0 i)
+
+-- from i on, the first position of T is there and in G
+unfoldable pub firstTick : (ℕ → Bool) → ℕ → (ℕ → Bool) → ℕ → Bool
+firstTick T n G = leadsUp (λ k. leb k n && not (T k)) (λ k. T k && G k)
+
+abbrev pub nextTested : List ℕ → ℕ → Standing → (ℕ → Bool) → ℕ → Bool
+nextTested rows n at P i =
+    cond (eqb (at .clock) 255) (P (suc i)) (firstTick (isTick rows n at) n (λ k. firstTick (isTick rows n at) n P (suc k)) i)
+
+-- E: either side is tested
+abbrev pub untilTested : List ℕ → ℕ → Standing → (ℕ → Bool) → ℕ → Bool
+untilTested rows n at E =
+    leadsUp (λ k. (bitIn rows (at .a) 0 k && not (bitIn rows (at .b) 0 k)) || (leb k n && not (isTick rows n at k))) (λ k. isTick rows n at k && E k)
+
+abbrev pub propertyTested : List ℕ → ℕ → Standing → (ℕ → Bool) → (ℕ → Bool) → PropertyOp → ℕ → Bool
+propertyTested rows n at X Y (Strong r) i = leb i n
+propertyTested rows n at X Y (Weak r) i = leb i n
+propertyTested rows n at X Y (Negated p) i = X i
+propertyTested rows n at X Y (AnyOf p q) i = X i || Y i
+propertyTested rows n at X Y (BothOf p q) i = X i || Y i
+propertyTested rows n at X Y (Implies r p) i = leb i n && some (λ l. lastLetter rows (at .a) i l && Y l) 0 64
+propertyTested rows n at X Y (Next p) i = nextTested rows n at X i
+propertyTested rows n at X Y (Until p q) i = untilTested rows n at (λ k. X k || Y k) i
+propertyTested rows n at X Y (Ticked c p) i = Y i
+
+abbrev pub nodeTested : List ℕ → ℕ → Standing → (ℕ → Bool) → (ℕ → Bool) → Node → ℕ → Bool
+nodeTested rows n at X Y (Boolean o) i = false
+nodeTested rows n at X Y (Sequence o) i = false
+nodeTested rows n at X Y (Property o) i = propertyTested rows n at X Y o i
+
+-- ---- the sets of a table's nodes
+
+module _ (s clocks numbers : List ℕ) where
+  -- the rows that stand for what node k names
+  abbrev pub standingOf : ℕ → Standing
+  standingOf k = record {
+    clock = getD clocks k 0;
+    condition = getD numbers (namedBy (getD clocks k 0)) 0;
+    a = getD numbers (namedBy (rawAt s k .x)) 0;
+    b = getD numbers (namedBy (rawAt s k .y)) 0;
+  }
+
+  module _ (rows : List ℕ) (n : ℕ) where
+    -- the set of node k, from the sets of the nodes below it
+    abbrev pub setFrom : List ℕ → ℕ → ℕ
+    setFrom sets k =
+        set64 (nodeTested rows n (standingOf k) (has (getD sets (namedBy (rawAt s k .x)) 0)) (has (getD sets (namedBy (rawAt s k .y)) 0)) (nodeAt s k))
+
+    -- the sets of the nodes below k
+    unfoldable pub setsBelow : ℕ → List ℕ
+    setsBelow zero = []
+    setsBelow (suc k) = setsBelow k ++ (setFrom (setsBelow k) k ∷ [])
+
+    -- the root is tested from position 0
+    unfoldable pub testedIn : Bool
+    testedIn = has (getD (setsBelow (count s)) (count s - 1) 0) 0
+
+-- ---- what the code asks: the rows that a node's rule reads lie within the first w words
+
+abbrev pub clockThere : ℕ → Standing → Type 0
+clockThere w at = (¬ (at .clock ≡ 255)) → HasRow w (at .condition)
+
+abbrev pub propertyThere : ℕ → Standing → PropertyOp → Type 0
+propertyThere w at (Strong r) = Unit {0}
+propertyThere w at (Weak r) = Unit {0}
+propertyThere w at (Negated p) = Unit {0}
+propertyThere w at (AnyOf p q) = Unit {0}
+propertyThere w at (BothOf p q) = Unit {0}
+propertyThere w at (Implies r p) = HasRow w (at .a)
+propertyThere w at (Next p) = clockThere w at
+propertyThere w at (Until p q) = HasRow w (at .a) × HasRow w (at .b) × clockThere w at
+propertyThere w at (Ticked c p) = Unit {0}
+
+abbrev pub nodeThere : ℕ → Standing → Node → Type 0
+nodeThere w at (Boolean o) = Unit {0}
+nodeThere w at (Sequence o) = Unit {0}
+nodeThere w at (Property o) = propertyThere w at o
+
+pub record Testing (s clocks numbers rows : List ℕ) (n : ℕ) : Type 0 where
+  pub bytes : 4 * count s + 6 ≤ length s
+  pub some : 1 ≤ count s
+  pub few : count s ≤ 120
+  pub timed : length clocks ≡ 121
+  pub numbered : length numbers ≡ 121
+  pub ready : (k : ℕ) → k < count s → nodeThere (length rows) (standingOf s clocks numbers k) (nodeAt s k)
+  pub short : n ≤ longest

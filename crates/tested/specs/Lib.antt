@@ -1,0 +1,2 @@
+-- What the code is held to; what it means is shown in `judge`.
+pub mod Computed
