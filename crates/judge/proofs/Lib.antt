@@ -7,7 +7,8 @@ pub mod PropertyRows
 pub mod Meaning
 pub mod Same
 -- What is read off them, and that no other answer fits.
-pub mod Testing
+pub mod TestedRules
+pub mod TestedSets
 pub mod Judging
 pub mod Unique
 -- The demands, and that the answers on tables of version 1 stay.

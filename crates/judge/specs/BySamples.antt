@@ -1,13 +1,13 @@
--- What is said of a table of version 1, as document 01 has it, over samples and signals: Tested.antt, Rows.antt and Judges.antt with `signal` for `reading`
--- and no pairs. `proofs/VersionOne.antt` shows it of every accepted call. Assumes nothing.
+-- What is said of a table of version 1, as document 01 has it, over samples and signals: Rows.antt and Judges.antt with `signal` for `reading` and no pairs.
+-- `proofs/VersionOne.antt` shows it of every accepted call. Assumes nothing.
 use mathlib.Core.Path.{_≡_}
-use mathlib.Core.Logic.{_⊎_}
 use mathlib.Core.List.{List}
 use Prim.Native.Nat.{ℕ, _<_}
 use Rattle.telling.specs.Tells.{Tells}
 use Rattle.refusal.specs.Heading.{count}
 use Rattle.meaning.specs.Syntax.{Bexp, Seq, Prop}
 use Rattle.meaning.specs.Meaning.{Level, Ends}
+use Rattle.meaning.specs.Tested.{Tests}
 use Rattle.meaning.specs.Signal.{signal}
 use Rattle.meaning.specs.Pairs.{Atom}
 use Rattle.meaning.specs.Renaming.{signalsB, signalsS, signalsP}
@@ -18,12 +18,7 @@ use Rattle.rewrite.specs.Rewrites.{OfClocks}
 use Rattle.cells.specs.Shares.{wordIn}
 use Rattle.judge.specs.declared.Judgement.{Judgement}
 use Rattle.judge.specs.declared.MatchEnds.{MatchEnds}
-use Rattle.judge.specs.Tested.{ImpliesAt, Matched}
 use Rattle.judge.specs.Rows.{Onward, BooleanRow, SequenceRow, PropertyRow}
-
-abbrev pub TestedBySamples : List ℕ → List ℕ → Type 0
-TestedBySamples t xs =
-    ((k x : ℕ) → ¬ ImpliesAt t k x) ⊎ ((k : ℕ) × (x : ℕ) × ImpliesAt t k x × Matched signal xs (λ q. SequenceAt (nodeAt t) x (signalsS q)))
 
 -- each node of t stands for a tree of signals alone, and its row in the workspace is that tree's on the samples xs
 pub record RowsBySamples (t xs d′ : List ℕ) : Type 0 where
@@ -37,7 +32,7 @@ pub record RowsBySamples (t xs d′ : List ℕ) : Type 0 where
 -- the judge's answer: the level of the property at the root, the flag, the rows
 pub record JudgedBySamples (s xs : List ℕ) (r : Judgement) (d′ : List ℕ) : Type 0 where
   pub level : (P : Prop ℕ) × RootP s (signalsP P) × Level signal P xs (r .level .number)
-  pub tested : OfClocks s (λ clock. Tells (r .tested) (TestedBySamples (newTable s clock) xs))
+  pub tested : (P : Prop ℕ) × RootP s (signalsP P) × Tells (r .tested) (Tests signal xs P)
   pub rows : OfClocks s (λ clock. RowsBySamples (newTable s clock) xs d′)
 
 -- the answer of match ends

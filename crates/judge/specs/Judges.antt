@@ -9,6 +9,7 @@ use Rattle.telling.specs.Tells.{Tells}
 use Rattle.refusal.specs.First.{Answers}
 use Rattle.meaning.specs.Syntax.{Seq, Prop}
 use Rattle.meaning.specs.Meaning.{Level, Ends}
+use Rattle.meaning.specs.Tested.{Tests}
 use Rattle.meaning.specs.Pairs.{Atom, reading, pairs}
 use Rattle.table.specs.Trees.{RootS, RootP}
 use Rattle.writing.specs.Tables.{newTable}
@@ -16,18 +17,17 @@ use Rattle.rewrite.specs.Rewrites.{OfClocks}
 use Rattle.settling.specs.Refusals.{judgeRefusals, endsRefusals}
 use Rattle.judge.specs.declared.Judgement.{Judgement}
 use Rattle.judge.specs.declared.MatchEnds.{MatchEnds}
-use Rattle.judge.specs.Tested.{Tested}
 use Rattle.judge.specs.Rows.{Onward, Filled}
 
 -- the workspace has the rows of the rewritten table
 abbrev pub Rowed : List ℕ → List ℕ → List ℕ → List ℕ → Type 0
 Rowed s xs d d′ = OfClocks s (λ clock. Filled (newTable s clock) xs d d′)
 
--- an acceptance: the level is that of the property at the root of s, clocks and all, on the pairs of the samples; tested is yes exactly if the rewritten
--- table is; and the rows
+-- an acceptance: the level is that of the property at the root of s, clocks and all, on the pairs of the samples; tested is yes exactly if they test that
+-- property; and the rows
 pub record Judged (s xs d : List ℕ) (r : Judgement) (d′ : List ℕ) : Type 0 where
   pub level : (P : Prop Atom) × RootP s P × Level reading P (pairs xs) (r .level .number)
-  pub tested : OfClocks s (λ clock. Tells (r .tested) (Tested (newTable s clock) xs))
+  pub tested : (P : Prop Atom) × RootP s P × Tells (r .tested) (Tests reading (pairs xs) P)
   pub rows : Rowed s xs d d′
 
 -- the statement of the judge. No second answer and no second workspace fit (`proofs/Unique.antt`, `judge-unique`)

@@ -6,11 +6,12 @@ use nodes::operators::PROPERTY;
 use nodes::operators::SEQUENCE;
 use positions::PositionSet;
 use readout::level_of;
-use readout::tested;
 use refusal::Verdict;
-use rewrite::Rewriting;
+use refusal::wide;
+use rewrite::Renumbered;
 use rows::fill;
 use settling::settle;
+use tested::tested;
 ghost use mathlib.Core.Path.{_≡_};
 ghost use lib.ListN.{length};
 ghost use Rattle.judge.specs.Judges.{Judges, EndsMatches};
@@ -41,7 +42,7 @@ fn lay(
     start: usize,
     ws: &mut [u64],
     new: &mut [u8],
-) -> Rewriting
+) -> Renumbered
     requires { ⌜ length (now new) ≡ 486 ⌝ }
     ensures { λ r. ⌜ Lays (now (table .entry)) wrong (now (samples .entry)) start (now (ws .entry)) (now (new .entry)) r (now (new .exit)) (now (ws .exit)) ⌝ }
 {
@@ -70,12 +71,20 @@ pub fn judge(table: &[u8], samples: &[u64], workspace: &mut [u64]) -> Judgement
             tested: false,
         };
     }
-    let m = settled.count;
-    let used = 4 * m + 6;
+    let root = settled.count - 1;
+    let clocks = settled.clocks;
+    let numbers = settled.numbers;
     Judgement {
         verdict,
-        level: level_of(workspace, m - 1),
-        tested: tested(&new[..used], samples.len(), workspace, m),
+        level: level_of(workspace, root),
+        tested: tested(
+            table,
+            wide(table[5]),
+            &clocks,
+            &numbers,
+            workspace,
+            samples.len(),
+        ),
     }
 }
 

@@ -1,2 +1,2 @@
--- The nodes that were asked.
+-- The level as it is read.
 pub mod Seeing

@@ -1,6 +1,6 @@
 -- The sets of a table's nodes: each rule from sets that are known by their places, and the array that has them, node by node. Assumes nothing.
 use mathlib.Core.Path.{_≡_, refl, sym, ap, ap₂, subst, _∙_, fun-ext}
-use mathlib.Core.Bool.{Bool, true, false, not, cond, _||_, _&&_}
+use mathlib.Core.Bool.{Bool, true, false, not, _||_, _&&_, Bool·not-not}
 use mathlib.Core.List.{List, []}
 use mathlib.Core.Logic.{⊎-elim}
 use Prim.Native.Nat.{ℕ, zero, suc, _+_, _-_, _^_, _<_, _≤_}
@@ -26,7 +26,7 @@ use Rattle.cells.proofs.Laying.{word-is}
 use Rattle.runs.specs.Runs.{leadsUp}
 use Rattle.runs.proofs.Leading.{led-as}
 use Rattle.tested.specs.declared.Standing.{Standing}
-use Rattle.tested.specs.Computed.{firstTick, untilTested, nodeTested, standingOf, setFrom, setsBelow, testedIn, nodeThere, Testing}
+use Rattle.tested.specs.Computed.{firstTick, untilTested, startsInto, impliesTested, nodeTested, standingOf, setFrom, setsBelow, testedIn, nodeThere, Testing}
 
 -- ---- the first tick
 
@@ -66,6 +66,13 @@ Met rows a i y x = Is x (λ j. ltb j i && some (λ l. lastLetter rows a j l && h
 pub met-more : (rows : List ℕ) (a i y x last x′ : ℕ) (t : Bool) → Met rows a i y x → Is last (lastLetter rows a i)
     → t ≡ some (λ l. has last l && has y l) 0 64 → Is x′ (λ j. has x j || (t && eqb j i)) → Met rows a (i + 1) y x′
 met-more rows a i y x last x′ t ex el et e = taken-more _ i x x′ t ex (et ∙ some-same 0 64 (λ l u v. ap (λ b. b && has y l) (el l))) e
+
+-- the set r is empty, or has a place
+pub walk-made : (rows : List ℕ) (n a r p z : ℕ) (t : Bool) → t ≡ not (some (has r) 0 64) → t ≡ true → Is z (startsInto rows n a (has p)) → Is z (impliesTested rows n a (has r) (has p))
+walk-made rows n a r p z t et e h k = rw (sym (Bool·not-not (some (has r) 0 64)) ∙ ap not (sym et ∙ e)) (h k)
+
+pub letter-made : (rows : List ℕ) (n a r p z : ℕ) (t : Bool) → t ≡ not (some (has r) 0 64) → t ≡ false → Is z (λ k. has r k && has p k) → Is z (impliesTested rows n a (has r) (has p))
+letter-made rows n a r p z t et e h k = rw (sym (Bool·not-not (some (has r) 0 64)) ∙ ap not (sym et ∙ e)) (h k)
 
 -- ---- the array of the sets, node by node
 

@@ -11,6 +11,8 @@ use Rattle.positions.specs.Member.{has}
 use Rattle.refusal.specs.Heading.{count}
 use Rattle.nodes.specs.declared.Node.{Node}
 use Rattle.nodes.specs.declared.Node.the-variants.{Boolean, Sequence, Property}
+use Rattle.nodes.specs.declared.SequenceOp.{SequenceOp}
+use Rattle.nodes.specs.declared.SequenceOp.the-variants.{Letter, Then, Fused, Either, Empty, Repeat, Clocked}
 use Rattle.nodes.specs.declared.PropertyOp.{PropertyOp}
 use Rattle.nodes.specs.declared.PropertyOp.the-variants.{Strong, Weak, Negated, AnyOf, BothOf, Implies, Next, Until, Ticked}
 use Rattle.nodes.specs.Nodes.{rawAt, nodeAt}
@@ -40,20 +42,38 @@ abbrev pub untilTested : List ℕ → ℕ → Standing → (ℕ → Bool) → �
 untilTested rows n at E =
     leadsUp (λ k. (bitIn rows (at .a) 0 k && not (bitIn rows (at .b) 0 k)) || (leb k n && not (isTick rows n at k))) (λ k. isTick rows n at k && E k)
 
+-- from i some match of row a, not empty, has its last letter in P
+abbrev pub startsInto : List ℕ → ℕ → ℕ → (ℕ → Bool) → ℕ → Bool
+startsInto rows n a P i = leb i n && some (λ l. lastLetter rows a i l && P l) 0 64
+
+-- R, where it has a place, is the set of a letter
+abbrev pub impliesTested : List ℕ → ℕ → ℕ → (ℕ → Bool) → (ℕ → Bool) → ℕ → Bool
+impliesTested rows n a R P i = cond (some R 0 64) (R i && P i) (startsInto rows n a P i)
+
 abbrev pub propertyTested : List ℕ → ℕ → Standing → (ℕ → Bool) → (ℕ → Bool) → PropertyOp → ℕ → Bool
 propertyTested rows n at X Y (Strong r) i = leb i n
 propertyTested rows n at X Y (Weak r) i = leb i n
 propertyTested rows n at X Y (Negated p) i = X i
 propertyTested rows n at X Y (AnyOf p q) i = X i || Y i
 propertyTested rows n at X Y (BothOf p q) i = X i || Y i
-propertyTested rows n at X Y (Implies r p) i = leb i n && some (λ l. lastLetter rows (at .a) i l && Y l) 0 64
+propertyTested rows n at X Y (Implies r p) i = impliesTested rows n (at .a) X Y i
 propertyTested rows n at X Y (Next p) i = nextTested rows n at X i
 propertyTested rows n at X Y (Until p q) i = untilTested rows n at (λ k. X k || Y k) i
 propertyTested rows n at X Y (Ticked c p) i = Y i
 
+-- the samples that a letter with no clock matches
+abbrev pub letterMatches : List ℕ → Standing → SequenceOp → ℕ → Bool
+letterMatches rows at (Letter b) i = bitIn rows (at .a) 0 i && eqb (at .clock) 255
+letterMatches rows at (Then r s) i = false
+letterMatches rows at (Fused r s) i = false
+letterMatches rows at (Either r s) i = false
+letterMatches rows at (Empty r) i = false
+letterMatches rows at (Repeat r) i = false
+letterMatches rows at (Clocked c r) i = false
+
 abbrev pub nodeTested : List ℕ → ℕ → Standing → (ℕ → Bool) → (ℕ → Bool) → Node → ℕ → Bool
 nodeTested rows n at X Y (Boolean o) i = false
-nodeTested rows n at X Y (Sequence o) i = false
+nodeTested rows n at X Y (Sequence o) i = letterMatches rows at o i
 nodeTested rows n at X Y (Property o) i = propertyTested rows n at X Y o i
 
 -- ---- the sets of a table's nodes
@@ -88,6 +108,15 @@ module _ (s clocks numbers : List ℕ) where
 abbrev pub clockThere : ℕ → Standing → Type 0
 clockThere w at = (¬ (at .clock ≡ 255)) → HasRow w (at .condition)
 
+abbrev pub sequenceThere : ℕ → Standing → SequenceOp → Type 0
+sequenceThere w at (Letter b) = HasRow w (at .a)
+sequenceThere w at (Then r s) = Unit {0}
+sequenceThere w at (Fused r s) = Unit {0}
+sequenceThere w at (Either r s) = Unit {0}
+sequenceThere w at (Empty r) = Unit {0}
+sequenceThere w at (Repeat r) = Unit {0}
+sequenceThere w at (Clocked c r) = Unit {0}
+
 abbrev pub propertyThere : ℕ → Standing → PropertyOp → Type 0
 propertyThere w at (Strong r) = Unit {0}
 propertyThere w at (Weak r) = Unit {0}
@@ -101,7 +130,7 @@ propertyThere w at (Ticked c p) = Unit {0}
 
 abbrev pub nodeThere : ℕ → Standing → Node → Type 0
 nodeThere w at (Boolean o) = Unit {0}
-nodeThere w at (Sequence o) = Unit {0}
+nodeThere w at (Sequence o) = sequenceThere w at o
 nodeThere w at (Property o) = propertyThere w at o
 
 pub record Testing (s clocks numbers rows : List ℕ) (n : ℕ) : Type 0 where

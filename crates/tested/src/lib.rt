@@ -5,6 +5,7 @@ use cells::word_at;
 use clocks::UNCLOCKED;
 use nodes::Node;
 use nodes::PropertyOp;
+use nodes::SequenceOp;
 use nodes::decode;
 use nodes::named;
 use nodes::node_at;
@@ -13,17 +14,13 @@ use refusal::wide;
 use runs::Led;
 use runs::lead;
 ghost use mathlib.Core.Path.{_≡_};
-ghost use mathlib.Core.Bool.{_&&_};
-ghost use Prim.Native.Nat.{_≤_, _<_};
-ghost use lib.Dec.{leb};
+ghost use Prim.Native.Nat.{_≤_};
 ghost use lib.ListN.{length, getD};
-ghost use Rattle.telling.specs.Tells.{some};
 ghost use Rattle.positions.specs.Member.{has, Is};
 ghost use Rattle.refusal.specs.Heading.{count};
 ghost use Rattle.nodes.specs.Computed.{namedBy};
 ghost use Rattle.cells.specs.Shares.{longest, HasRow};
-ghost use Rattle.cells.specs.Bits.{lastLetter};
-ghost use Rattle.tested.specs.Computed.{isTick, firstTick, nextTested, untilTested, propertyTested, nodeTested, clockThere, propertyThere, nodeThere, standingOf, testedIn, Testing};
+ghost use Rattle.tested.specs.Computed.{isTick, firstTick, nextTested, untilTested, startsInto, impliesTested, propertyTested, letterMatches, nodeTested, clockThere, sequenceThere, propertyThere, nodeThere, testedIn, Testing};
 
 // The rows that stand for what a node names: its clock with the row of the condition, and the rows a and b of its operands.
 pub struct Standing {
@@ -81,10 +78,10 @@ fn until_set(rows: &[u64], n: usize, at: Standing, either: PositionSet) -> Posit
     })
 }
 
-// Of R |-> P: some match of row a, not empty, has its last letter where P is tested.
-fn implies_set(rows: &[u64], n: usize, a: usize, p: PositionSet) -> PositionSet
+// The starts, up to n, of the matches of row a that are not empty and have their last letter in the set.
+fn starts_into(rows: &[u64], n: usize, a: usize, p: PositionSet) -> PositionSet
     requires { ⌜ HasRow (length (now rows)) a × (n ≤ longest) ⌝ }
-    ensures { λ r. ⌜ Is (r .bits) (λ i. leb i n && some (λ l. lastLetter (now (rows .entry)) a i l && has (p .bits) l) 0 64) ⌝ }
+    ensures { λ r. ⌜ Is (r .bits) (startsInto (now (rows .entry)) n a (has (p .bits))) ⌝ }
 {
     let mut out = PositionSet::empty();
     let mut i: usize = 0;
@@ -93,6 +90,17 @@ fn implies_set(rows: &[u64], n: usize, a: usize, p: PositionSet) -> PositionSet
         i += 1;
     }
     out
+}
+
+// Of R |-> P: some match of R, not empty, has its last letter where P is tested. A letter with no clock has the samples that it matches in its own set.
+fn implies_set(rows: &[u64], n: usize, a: usize, r: PositionSet, p: PositionSet) -> PositionSet
+    requires { ⌜ HasRow (length (now rows)) a × (n ≤ longest) ⌝ }
+    ensures { λ out. ⌜ Is (out .bits) (impliesTested (now (rows .entry)) n a (has (r .bits)) (has (p .bits))) ⌝ }
+{
+    if r.is_empty() {
+        return starts_into(rows, n, a, p);
+    }
+    r.common(p)
 }
 
 // The positions from which a property is tested, where x and y are the sets of its operands.
@@ -113,14 +121,30 @@ fn property_set(
         PropertyOp::Negated(_) => x,
         PropertyOp::AnyOf(_, _) => x.joined(y),
         PropertyOp::BothOf(_, _) => x.joined(y),
-        PropertyOp::Implies(_, _) => implies_set(rows, n, at.a, y),
+        PropertyOp::Implies(_, _) => implies_set(rows, n, at.a, x, y),
         PropertyOp::Next(_) => next_set(rows, n, at, x),
         PropertyOp::Until(_, _) => until_set(rows, n, at, x.joined(y)),
         PropertyOp::Ticked(_, _) => y,
     }
 }
 
-// Booleans and sequences are not tested.
+// The samples that a letter with no clock matches, so that `|->` over it is one meeting of two sets; of any other sequence none.
+fn letter_set(rows: &[u64], op: SequenceOp, at: Standing) -> PositionSet
+    requires { ⌜ sequenceThere (length (now rows)) at op ⌝ }
+    ensures { λ r. ⌜ Is (r .bits) (letterMatches (now (rows .entry)) at op) ⌝ }
+{
+    match op {
+        SequenceOp::Letter(_) => word_at(rows, at.a, 0).only_if(at.clock == UNCLOCKED),
+        SequenceOp::Then(_, _) => PositionSet::empty(),
+        SequenceOp::Fused(_, _) => PositionSet::empty(),
+        SequenceOp::Either(_, _) => PositionSet::empty(),
+        SequenceOp::Empty(_) => PositionSet::empty(),
+        SequenceOp::Repeat(_) => PositionSet::empty(),
+        SequenceOp::Clocked(_, _) => PositionSet::empty(),
+    }
+}
+
+// The set of a node; a boolean has none.
 fn node_set(
     rows: &[u64],
     n: usize,
@@ -134,7 +158,7 @@ fn node_set(
 {
     match node {
         Node::Boolean(_) => PositionSet::empty(),
-        Node::Sequence(_) => PositionSet::empty(),
+        Node::Sequence(op) => letter_set(rows, op, at),
         Node::Property(op) => property_set(rows, n, op, at, x, y),
     }
 }

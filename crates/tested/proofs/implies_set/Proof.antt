@@ -1,36 +1,15 @@
--- `tested::implies_set` meets its contract: the loop has taken the places below i from which a match ends in the set. Assumes nothing.
-use Prim.Native.Nat.{_+_, _-_, _≤_}
-use native.Mathlib.Omega.{arith}
+-- `tested::implies_set` meets its contract: a letter's set meets that of P, and with no such set the row is walked. Assumes nothing.
 use borrow.Author.Needs.{needs}
-use Rattle.cells.proofs.Loops.{taken-none, asked-upto}
-use Rattle.tested.proofs.Setting.{Met, met-more}
+use Rattle.tested.proofs.Setting.{letter-made, walk-made}
 use Rattle.tested.proofs.implies_set.Statement.{statement}
 use Rattle.tested.proofs.implies_set.Tie as tie
-
-abbrev Inv-loop : tie.InvT-loop
-Inv-loop rows n a p out₀ i₀ out i = (i ≤ n + 1) × Met rows a i (p .bits) (out .bits)
-
-abbrev μ-loop : tie.MeasureT-loop
-μ-loop rows n a p out₀ i₀ out i = n + 1 - i
-
-loop-again : tie.Need-loop-again Inv-loop μ-loop
-loop-again c =
-    let t = c .before .before .before .before in
-    let a = t .before .before .before .args in
-    (search needs, met-more (a .rows .now) (a .a) _ _ _ _ _ _ (t .loop .inv .1) (c .before .before .last-letters .ensures) (c .before .meets .ensures) (c .with-if .ensures))
 
 pub implies-set-spec : {M : Type 1} → statement M
 implies-set-spec =
     tie.close
     (tie.spec
-    Inv-loop
-    μ-loop
-    (λ c κs. search needs)
-    (λ c. (search needs, taken-none _ _ (c .empty .ensures)))
     (λ c κs. search needs)
     (λ c κs. search needs)
+    (λ c. search walk-made)
     (λ c κs. search needs)
-    (λ c. search needs)
-    (λ c. search needs)
-    loop-again
-    (λ c. asked-upto _ _ _ _ (c .before .loop .inv .1) (omega arith)))
+    (λ c. search letter-made))

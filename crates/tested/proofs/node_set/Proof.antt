@@ -1,4 +1,4 @@
--- `tested::node_set` meets its contract: a property has its set, any other node none. Assumes nothing.
+-- `tested::node_set` meets its contract: a property and a letter have their sets, any other node none. Assumes nothing.
 use borrow.Author.Needs.{needs}
 use Rattle.tested.proofs.node_set.Statement.{statement}
 use Rattle.tested.proofs.node_set.Tie as tie
@@ -10,9 +10,9 @@ node-set-spec =
     (λ c. search needs)
     (λ c κs. search needs)
     (λ c. search needs)
-    (λ c κs. search needs)
-    (λ c. search needs)
     (λ c κs. let p = rw (c .before .node .given .1) at (c .before .before .before .before .pre) in search needs)
+    (λ c. search needs)
+    (λ c κs. let p = rw (c .before .node2 .given .1) at (c .before .before .before .before .pre) in search needs)
     (λ c. rw (c .before .enum-told .given .1) (c .empty .ensures))
-    (λ c. rw (c .before .enum-told2 .given .1) (c .empty2 .ensures))
-    (λ c. rw (c .before .before .node .given .1) (c .property-set .ensures)))
+    (λ c. rw (c .before .before .node .given .1) (c .letter-set .ensures))
+    (λ c. rw (c .before .before .node2 .given .1) (c .property-set .ensures)))

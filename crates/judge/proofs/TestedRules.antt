@@ -1,0 +1,146 @@
+-- Each rule of the sets is document 02's: where the sets of the operands tell from which positions they are tested, and other tests tell ticks, matches and
+-- what holds, so does the set that the rule makes. For any letters, and for any engine that has such tests. Assumes nothing.
+use mathlib.Core.Path.{_≡_, refl, sym, subst}
+use mathlib.Core.Bool.{Bool, false, not, _||_, _&&_}
+use mathlib.Core.List.{List, [], _∷_}
+use mathlib.Core.Logic.{inl, inr, ⊎-elim}
+use Prim.Native.Nat.{ℕ, zero, suc, _≤_, _<_}
+use native.Mathlib.Omega.{arith}
+use lib.Dec.{T, leb}
+use lib.ListN.{length}
+use borrow.Author.Tests.{le-leb, lt-leb}
+use Rattle.telling.specs.Tells.{Tells, some}
+use Rattle.telling.proofs.Telling.{is-map, is-true, is-or, is-and, is-and-then, is-not, is-some-at, fails, decide, side}
+use Rattle.meaning.specs.Syntax.{Bexp, Seq, Prop, strong, weak, neg, either, both, implies, next, until, under, Clock, free, on}
+use Rattle.meaning.specs.Words.{Word, inside, word, none}
+use Rattle.meaning.specs.Meaning.{satisfies, Match, counts, ticks, Second, Sat}
+use Rattle.meaning.specs.Tested.{UpTo, Tested}
+use Rattle.meaning.proofs.Words.{word-inside, word-out}
+use Rattle.meaning.proofs.Sequences.{match-shut}
+use Rattle.meaning.proofs.Answers.{out-ticks}
+use Rattle.meaning.proofs.Testing.{inside-none}
+use Rattle.cells.specs.Shares.{longest}
+use Rattle.runs.specs.Runs.{leadsUp}
+use Rattle.runs.proofs.Leading.{is-leading}
+use Rattle.tested.specs.Computed.{firstTick}
+
+module _ {A S : Type 0} (reads : A → S → Bool) (xs : List S) (short : length xs ≤ longest) where
+  abbrev w : Word S
+  w = word xs none
+
+  -- X tells from which of the positions 0 to n the property is tested
+  pub record TestedBy (κ : Clock A) (P : Prop A) (X : ℕ → Bool) : Type 0 where
+    pub tells : (i : ℕ) → i ≤ length xs → Tells (X i) (Tested reads κ P w i)
+    pub past : (i : ℕ) → length xs < i → X i ≡ false
+
+  -- ---- strong, weak, not, and, or, and a clock
+
+  always : (κ : Clock A) (P : Prop A) → ((i : ℕ) → Tested reads κ P w i) → TestedBy κ P (λ i. leb i (length xs))
+  always κ P t = record { tells = λ i l. rw (le-leb i (length xs) l) (is-true (t i)); past = λ i l. lt-leb i (length xs) l }
+
+  pub strong-tested : (κ : Clock A) (r : Seq A) → TestedBy κ (strong r) (λ i. leb i (length xs))
+  unfolding Tested
+  strong-tested κ r = always κ (strong r) (λ i. tt)
+
+  pub weak-tested : (κ : Clock A) (r : Seq A) → TestedBy κ (weak r) (λ i. leb i (length xs))
+  unfolding Tested
+  weak-tested κ r = always κ (weak r) (λ i. tt)
+
+  module _ {κ : Clock A} {P : Prop A} {X : ℕ → Bool} (hP : TestedBy κ P X) where
+    pub not-tested : TestedBy κ (neg P) X
+    unfolding Tested
+    not-tested = record { tells = hP .tells; past = hP .past }
+
+    module _ {Q : Prop A} {Y : ℕ → Bool} (hQ : TestedBy κ Q Y) where
+      pub or-tested : TestedBy κ (either P Q) (λ i. X i || Y i)
+      unfolding Tested
+      or-tested = record { tells = λ i l. is-or (hP .tells i l) (hQ .tells i l); past = λ i l. rw (hP .past i l, hQ .past i l) }
+
+      pub and-tested : TestedBy κ (both P Q) (λ i. X i || Y i)
+      unfolding Tested
+      and-tested = record { tells = λ i l. is-or (hP .tells i l) (hQ .tells i l); past = λ i l. rw (hP .past i l, hQ .past i l) }
+
+      -- ---- until: T tells the ticks, F and G where P and Q hold
+
+      module _ {T₀ F G : ℕ → Bool} (tick : (j : ℕ) → Tells (T₀ j) (T (inside (w j)) × T (counts reads κ (w j))))
+          (hF : (k : ℕ) → k ≤ length xs → Tells (F k) (Sat reads κ P w k)) (hG : (k : ℕ) → k ≤ length xs → Tells (G k) (Sat reads κ Q w k)) where
+        before : (k : ℕ) → k < length xs → Tells ((F k && not (G k)) || (leb k (length xs) && not (T₀ k))) (T (counts reads κ (w k)) → Sat reads κ P w k × (¬ Sat reads κ Q w k))
+        before k l =
+            rw (le-leb k (length xs) (omega arith))
+            (is-map (is-or (is-and (hF k (omega arith)) (is-not (hG k (omega arith)))) (is-not (tick k)))
+            (⊎-elim (λ q c. q) (λ n c. absurd (n (word-inside xs none k l, c))))
+            (λ f. ⊎-elim (λ t. inl (f (t .1))) (λ n. inr n) (decide (tick k))))
+
+        up : (i : ℕ) → Tells (leadsUp (λ k. (F k && not (G k)) || (leb k (length xs) && not (T₀ k))) (λ k. T₀ k && (X k || Y k)) i) (Tested reads κ (until P Q) w i)
+        unfolding Tested UpTo
+        up i =
+            is-map
+            (is-leading (length xs) i short (λ j q. inside-none reads xs j (q .0 .0))
+            (λ j. is-and-then (tick j) (λ t. let l = inside-none reads xs j (t .0) in is-or (hP .tells j (omega arith)) (hQ .tells j (omega arith)))) before)
+            (λ q. let (j, u, ((z, c), t), e) = q in (j, (u, z, c, e), t))
+            (λ q. let (j, (u, z, c, e), t) = q in (j, u, ((z, c), t), e))
+
+        pub until-tested : TestedBy κ (until P Q) (leadsUp (λ k. (F k && not (G k)) || (leb k (length xs) && not (T₀ k))) (λ k. T₀ k && (X k || Y k)))
+        unfolding Tested UpTo
+        until-tested = record { tells = λ i l. up i; past = λ i l. fails (up i) (λ q. let (j, (u, z, _, _), _) = q in let v = inside-none reads xs j z in omega arith) }
+
+    -- ---- R |-> P: M tells the matches that are not empty, by their last letter
+
+    pub implies-tested : {r : Seq A} {M : ℕ → ℕ → Bool} → ((i l : ℕ) → i ≤ length xs → Tells (M i l) (Match reads κ r w i (suc l) × (i ≤ l)))
+        → TestedBy κ (implies r P) (λ i. leb i (length xs) && some (λ l. M i l && X l) 0 64)
+    unfolding Tested
+    implies-tested {r} m = record {
+      tells = λ i h.
+          rw (le-leb i (length xs) h)
+          (is-map
+          (is-some-at 0 64 (λ l q. let e = ends q in (omega arith, omega arith)) (λ l u v. is-and-then (m i l h) (λ q. let e = ends (q, tt) in hP .tells l (omega arith))))
+          (λ q. let (l, ((a, u), t)) = q in (l, u, a, t))
+          (λ q. let (l, u, a, t) = q in (l, ((a, u), t))));
+      past = λ i l. rw (lt-leb i (length xs) l);
+    }
+      where
+        -- a match that is not empty has its last letter inside the record
+        ends : {i l : ℕ} {Z : Type 0} → (Match reads κ r w i (suc l) × (i ≤ l)) × Z → l < length xs
+        ends {i} {l} q = let u = q .0 .1 in match-shut reads κ r xs none tt i (suc l) (omega arith) (q .0 .0)
+
+  -- ---- nexttime
+
+  pub next-tested : {P : Prop A} {X : ℕ → Bool} → TestedBy free P X → TestedBy free (next P) (λ i. X (suc i))
+  unfolding Tested
+  next-tested {P} {X} h = record { tells = λ i l. ⊎-elim (there i) (out i) (side i (length xs)); past = λ i l. h .past (suc i) (omega arith) }
+    where
+      there : (i : ℕ) → i < length xs → Tells (X (suc i)) (T (inside (w i)) × Tested reads free P w (suc i))
+      there i u = is-map (h .tells (suc i) u) (λ t. (word-inside xs none i u, t)) (λ q. q .1)
+
+      out : (i : ℕ) → length xs ≤ i → Tells (X (suc i)) (T (inside (w i)) × Tested reads free P w (suc i))
+      out i u = rw (h .past (suc i) (omega arith)) (record { to = λ z. absurd z; from = λ q. let v = inside-none reads xs i (q .0) in absurd (omega arith) })
+
+  -- T tells the ticks of c
+  module _ {c : Bexp A} {T₀ : ℕ → Bool} (tick : (j : ℕ) → Tells (T₀ j) (T (ticks reads c (w j)))) where
+    tick-in : (j : ℕ) → T (ticks reads c (w j)) → j < length xs
+    tick-in j t = ⊎-elim (λ l. l) (λ l. absurd (out-ticks reads c none (rw (word-out xs none j l) at t))) (side j (length xs))
+
+    -- the first tick from i on is there, and G tells B there
+    first : {G : ℕ → Bool} {B : ℕ → Type 0} → ((j : ℕ) → j < length xs → Tells (G j) (B j)) → (i : ℕ)
+        → Tells (firstTick T₀ (length xs) G i) ((j : ℕ) × (i ≤ j) × (T (ticks reads c (w j)) × B j) × ((k : ℕ) → i ≤ k → k < j → ¬ T (ticks reads c (w k))))
+    unfolding firstTick
+    first g i =
+        is-leading (length xs) i short (λ j q. tick-in j (q .0)) (λ j. is-and-then (tick j) (λ t. g j (tick-in j t)))
+        (λ k l. rw (le-leb k (length xs) (omega arith)) (is-not (tick k)))
+
+    pub tick-tested : {P : Prop A} {X : ℕ → Bool} → TestedBy (on c) P X → TestedBy (on c) (next P) (firstTick T₀ (length xs) (λ k. firstTick T₀ (length xs) X (suc k)))
+    unfolding Tested Second
+    tick-tested {P} {X} h = record {
+      tells = λ i l. at i;
+      past = λ i l. fails (at i) (λ q. let (k, (j, u, v, y, x, e), t) = q in let b = tick-in j y in omega arith);
+    }
+      where
+        at : (i : ℕ) → Tells (firstTick T₀ (length xs) (λ k. firstTick T₀ (length xs) X (suc k)) i) (Tested reads (on c) (next P) w i)
+        at i =
+            is-map (first (λ j l. first (λ k l. h .tells k (omega arith)) (suc j)) i)
+            (λ q. let (j, u, (y, (k, v, (x, t), f)), e) = q in (k, (j, u, v, y, x, λ m a b z. ?), t))
+            (λ q. let (k, (j, u, v, y, x, e), t) = q in (j, u, (y, (k, v, (x, t), λ m a b z. ?)), λ m a b z. ?))
+
+  pub under-tested : {κ : Clock A} {c : Bexp A} {P : Prop A} {X : ℕ → Bool} → TestedBy (on c) P X → TestedBy κ (under c P) X
+  unfolding Tested
+  under-tested h = record { tells = h .tells; past = h .past }
