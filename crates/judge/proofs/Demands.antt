@@ -19,6 +19,7 @@ use Rattle.refusal.proofs.Given.{numbered, given-refused, answered-given, none-
 use Rattle.meaning.specs.Syntax.{Seq, Prop, free}
 use Rattle.meaning.specs.Words.{Tail, none, tops, bots, word}
 use Rattle.meaning.specs.Meaning.{Sat, Accepted, Level, Ends}
+use Rattle.meaning.specs.Tested.{Tests}
 use Rattle.meaning.specs.Pairs.{Atom, Pair, reading, pairsAfter, pairs}
 use Rattle.meaning.proofs.Pairing.{length-pairs, pairs-append}
 use Rattle.meaning.specs.Rewriting.{rewS, rewP}
@@ -41,7 +42,6 @@ use Rattle.rewrite.specs.Rewrites.{tooMany}
 use Rattle.cells.specs.Shares.{share, longest, topWord, wordIn, bitIn, wordOf}
 use Rattle.judge.specs.declared.Judgement.{Judgement}
 use Rattle.judge.specs.declared.MatchEnds.{MatchEnds}
-use Rattle.judge.specs.Tested.{Tested}
 use Rattle.judge.specs.Rows.{Onward, Filled}
 use Rattle.settling.specs.Refusals.{wrongRoot, judgeRefusals, endsRefusals}
 use Rattle.judge.specs.Judges.{Judges, EndsMatches}
@@ -109,6 +109,10 @@ module _ (s xs d : List ℕ) (r : Judgement) (d′ : List ℕ) (j : Judges s xs 
   pub level-only : (P : Prop Atom) → RootP s P → (m : ℕ) → Level reading P (pairs xs) m → r .level .number ≡ m
   level-only P a m l = Meaning.level-unique reading P (root-accepted P a) (pairs xs) (level-meant P a) l
 
+  -- the flag is yes exactly if the samples test that property
+  pub tested-meant : (P : Prop Atom) → RootP s P → Tells (r .tested) (Tests reading (pairs xs) P)
+  tested-meant P a = let (Q, b, t) = j .accepted z .tested in subst (λ (P : Prop Atom). Tells (r .tested) (Tests reading (pairs xs) P)) (uniqueP b a) t
+
   module _ (clock : ℕ → Ref) (right : Clocks s clock) where
     same : (other : ℕ → Ref) → Clocks s other → other ≡ clock
     same other right′ = same-clocks s (wrongRoot s sequence) (judgeRest s (length xs) (length d)) passes other clock right′ right
@@ -116,9 +120,6 @@ module _ (s xs d : List ℕ) (r : Judgement) (d′ : List ℕ) (j : Judges s xs 
     -- the rows, every bit
     pub rows-meant : Filled (newTable s clock) xs d d′
     rows-meant = let (other, right′, f) = j .accepted z .rows in subst (λ (κ : ℕ → Ref). Filled (newTable s κ) xs d d′) (same other right′) f
-
-    pub tested-meant : Tells (r .tested) (Tested (newTable s clock) xs)
-    tested-meant = let (other, right′, f) = j .accepted z .tested in subst (λ (κ : ℕ → Ref). Tells (r .tested) (Tested (newTable s κ) xs)) (same other right′) f
 
 module _ (s xs d : List ℕ) (start : ℕ) (r : MatchEnds) (d′ : List ℕ) (j : EndsMatches s xs d start r d′) (z : r .verdict .number ≡ 0) where
   ends-pass : NotGiven (Check.refusals s ++ (wrongRoot s property ∷ tooMany s ∷ endsRest s (length xs) start (length d)))

@@ -4,7 +4,7 @@ use native.Mathlib.Nat.{le-of-suc-le-suc, lt-of-not-le}
 use mir.Syntax.{w64}
 use mir.Val as M
 use mathlib.Core.Path.{_≡_, refl, _∙_, sym, ap, subst}
-use mathlib.Core.Logic.{_⊎_, inl, inr, ⊎-elim}
+use mathlib.Core.Logic.{inl, inr, ⊎-elim}
 use mathlib.Core.Bool.{Bool, false}
 use mathlib.Core.List.{List, _∷_, _++_}
 use Prim.Native.Nat.{ℕ, _+_, _*_, _-_, _<_, _≤_}
@@ -23,6 +23,7 @@ use Rattle.meaning.specs.declared.Level.{Level}
 use Rattle.meaning.specs.Syntax.{Seq, Prop, free}
 use Rattle.meaning.specs.Words.{word, none, tops, bots}
 use Rattle.meaning.specs.Meaning as Meaning
+use Rattle.meaning.specs.Tested.{Tests}
 use Rattle.meaning.specs.Pairs.{Atom, reading, pairs}
 use Rattle.meaning.proofs.Pairing.{length-pairs}
 use Rattle.meaning.specs.Rewriting.{rewS, rewP}
@@ -36,16 +37,18 @@ use Rattle.table.specs.Check.{Checks}
 use Rattle.nodes.proofs.Built.{Built}
 use Rattle.table.proofs.Standing.{sequence-in, property-in}
 use Rattle.table.proofs.Checking.{sound, sorts}
-use Rattle.rewrite.specs.declared.Rewriting.{Rewriting}
+use Rattle.rewrite.specs.declared.Renumbered.{Renumbered}
 use Rattle.clocks.specs.Clocks.{Clocks}
+use Rattle.clocks.specs.Computed.{clockBy}
+use Rattle.clocks.proofs.Timing.{clocks-unique}
 use Rattle.numbers.specs.Numbers.{newCount}
 use Rattle.writing.specs.Tables.{newTable}
-use Rattle.rewrite.specs.Rewrites.{OfClocks, tooMany}
+use Rattle.rewrite.specs.Rewrites.{tooMany}
 use Rattle.rewrite.specs.Keeps.{Keeps}
 use Rattle.cells.specs.Shares.{share, longest, topWord, wordIn, bitIn, HasRow}
 use Rattle.rows.specs.Rows.{filled, Fits}
-use Rattle.readout.specs.Computed.{levelIn, testedIn, Testing}
-use Rattle.judge.specs.Tested.{Tested}
+use Rattle.readout.specs.Computed.{levelIn}
+use Rattle.tested.specs.Computed.{testedIn, Testing}
 use Rattle.judge.specs.Rows.{Onward, Filled}
 use Rattle.settling.specs.Refusals.{wrongRoot, judgeRefusals, endsRefusals}
 use Rattle.settling.specs.Computed.{ownRefusals, settling, Settles}
@@ -54,7 +57,7 @@ use Rattle.judge.specs.Computed.{Lays}
 use Rattle.settling.proofs.Passing.{endsRest, own-parts, table-built, few-nodes, count-is-new, new-keeps, new-accepted}
 use Rattle.judge.proofs.Stepping.{ends-inside}
 use Rattle.judge.proofs.Meaning.{rows-ready, rows-mean}
-use Rattle.judge.proofs.Testing.{tested-means, testing}
+use Rattle.judge.proofs.TestedSets.{tested-means, testing}
 
 -- ---- the verdict
 
@@ -75,7 +78,7 @@ unfolding settling endsRefusals Check.refusals
 ends-answer s n start words v a = a
 
 -- a refusal: nothing is changed
-pub judge-refused : (s xs d lent : List ℕ) (r : Rewriting) (new d′ : List ℕ) → Lays s sequence xs 0 d lent r new d′ → ¬ (r .verdict .number ≡ 0)
+pub judge-refused : (s xs d lent : List ℕ) (r : Renumbered) (new d′ : List ℕ) → Lays s sequence xs 0 d lent r new d′ → ¬ (r .verdict .number ≡ 0)
     → Judges s xs d (record { verdict = r .verdict; level = record { number = 0 }; tested = false }) d′
 judge-refused s xs d lent r new d′ w z = record {
   answer = judge-answer s (length xs) (length d) (r .verdict) (w .settles .answer);
@@ -83,7 +86,7 @@ judge-refused s xs d lent r new d′ w z = record {
   refused = λ _. (refl, refl, w .stays z);
 }
 
-pub ends-refused : (s xs d : List ℕ) (start : ℕ) (lent : List ℕ) (r : Rewriting) (new d′ : List ℕ) → Lays s property xs start d lent r new d′ → ¬ (r .verdict .number ≡ 0)
+pub ends-refused : (s xs d : List ℕ) (start : ℕ) (lent : List ℕ) (r : Renumbered) (new d′ : List ℕ) → Lays s property xs start d lent r new d′ → ¬ (r .verdict .number ≡ 0)
     → (mask : PositionSet) → Is (mask .bits) (λ k. false) → EndsMatches s xs d start (record { verdict = r .verdict; mask = mask; top = false }) d′
 ends-refused s xs d start lent r new d′ w z mask em = record {
   answer = ends-answer s (length xs) start (length d) (r .verdict) (w .settles .answer);
@@ -93,7 +96,7 @@ ends-refused s xs d start lent r new d′ w z mask em = record {
 
 -- ---- an acceptance
 
-module _ (s : List ℕ) (wrong n start words : ℕ) (lent : List ℕ) (r : Rewriting) (new : List ℕ) (w : Settles s wrong n start words lent r new) (z : r .verdict .number ≡ 0) where
+module _ (s : List ℕ) (wrong n start words : ℕ) (lent : List ℕ) (r : Renumbered) (new : List ℕ) (w : Settles s wrong n start words lent r new) (z : r .verdict .number ≡ 0) where
   abbrev rest : List Refusal
   rest = endsRest s n start words
 
@@ -226,8 +229,18 @@ module _ (s : List ℕ) (wrong n start words : ℕ) (lent : List ℕ) (r : Rewri
       root-row : HasRow (length d′) (r .count - 1)
       root-row = let l = rows .long in let h = enough in let c = some in let k = count-is in omega arith
 
-      implies-rows : Testing t (length xs) d′ (r .count)
-      implies-rows = subst (Testing t (length xs) d′) count-is (testing t xs d d′ new-built short rows (let l = rows .long in let h = enough in omega arith))
+      -- the clocks that are handed on are those of the table
+      same : clock ≡ clockBy (r .clocks)
+      same = clocks-unique s built clock (clockBy (r .clocks)) right (w .numbered z .timed .right)
+
+      sets-there : Testing s (r .clocks) (r .numbers) d′ (length xs)
+      sets-there =
+          let l = rows .long in
+          let h = enough in
+          let c = count-is in
+          let e = ap (newCount s) same in
+          let k = counted in
+          testing s (r .clocks) (r .numbers) built (w .numbered z) d′ (omega arith) (length xs) short
 
       -- what the root's row says of the root of s, clocks and all
       level-right : wrong ≡ sequence → (P : Prop Atom) × RootP s P × Meaning.Level reading P (pairs xs) (levelIn d′ (r .count - 1))
@@ -238,10 +251,15 @@ module _ (s : List ℕ) (wrong n start words : ℕ) (lent : List ℕ) (r : Rewri
           let row = rows .properties (root t) in-root (rewP free P) b in
           (P, a, keeps .levels P (rewP free P) a b (pairs xs) _ .1 (rw last-is (level-from reading (row .answers bots 0 (omega arith)) (row .answers none 0 (omega arith)) (row .answers tops 0 (omega arith)))))
 
-      tested-right : (b : Bool) → b ≡ testedIn t (length xs) d′ (r .count) → OfClocks s (λ κ. Tells b (Tested (newTable s κ) xs))
-      tested-right b eb =
-          let means = tested-means t xs d d′ new-built short rows in
-          (clock, right, subst (λ (u : List ℕ). Tells b (Tested u xs)) table-is (is-as (eb ∙ ap (testedIn t (length xs) d′) (sym count-is)) means))
+      -- and what its set says
+      tested-right : wrong ≡ sequence → (b : Bool) → b ≡ testedIn s (r .clocks) (r .numbers) d′ (length xs) → (P : Prop Atom) × RootP s P × Tells b (Tests reading (pairs xs) P)
+      tested-right g b eb =
+          let (P, a) = property-at-root g in
+          let e = same in
+          let laid = subst (λ (κ : ℕ → Ref). Filled (newTable s κ) xs d d′) e (subst (λ (u : List ℕ). Filled u xs d d′) table-is rows) in
+          let many = subst (λ (κ : ℕ → Ref). count (newTable s κ) ≡ newCount s κ) e (count-is-new s (wrongRoot s wrong) rest none-applies clock right) in
+          let few : length (pairs xs) ≤ longest = let n = length-pairs xs in let l = short in omega arith in
+          (P, a, is-as eb (tested-means s (r .clocks) (r .numbers) built (w .numbered z) xs d d′ laid many few P a))
 
       ends-right : wrong ≡ property → (q : Seq Atom) × RootS s q × Meaning.Ends reading q (pairs xs) start (wordIn d′ (r .count - 1) start)
           × Tells (bitIn d′ (r .count - 1) topWord start) (Onward reading (pairs xs) q start)
@@ -261,27 +279,36 @@ module _ (s : List ℕ) (wrong n start words : ℕ) (lent : List ℕ) (r : Rewri
 
 -- what the judge and match ends ask of the rows that are laid, and what they answer
 
-module _ (s : List ℕ) (wrong : ℕ) (xs : List ℕ) (start : ℕ) (d lent : List ℕ) (r : Rewriting) (new d′ : List ℕ) (w : Lays s wrong xs start d lent r new d′) (z : r .verdict .number ≡ 0) where
+module _ (s : List ℕ) (wrong : ℕ) (xs : List ℕ) (start : ℕ) (d lent : List ℕ) (r : Renumbered) (new d′ : List ℕ) (w : Lays s wrong xs start d lent r new d′) (z : r .verdict .number ≡ 0) where
   pub root-there : HasRow (length d′) (r .count - 1)
   root-there = root-row s wrong (length xs) start (length d) lent r new (w .settles) z xs d refl refl d′ (w .rows z)
 
-  pub tested-there : Testing (take (4 * r .count + 6) new) (length xs) d′ (r .count)
-  tested-there = implies-rows s wrong (length xs) start (length d) lent r new (w .settles) z xs d refl refl d′ (w .rows z)
+  pub tested-there : Testing s (r .clocks) (r .numbers) d′ (length xs)
+  tested-there = sets-there s wrong (length xs) start (length d) lent r new (w .settles) z xs d refl refl d′ (w .rows z)
 
-pub judge-accepted : (s xs d lent : List ℕ) (r : Rewriting) (new d′ : List ℕ) → Lays s sequence xs 0 d lent r new d′ → r .verdict .number ≡ 0
-    → (level : Level) → level .number ≡ levelIn d′ (r .count - 1) → (b : Bool) → b ≡ testedIn (take (4 * r .count + 6) new) (length xs) d′ (r .count)
+  pub clocks-sized : 121 ≡ length (r .clocks)
+  clocks-sized = sym (w .settles .numbered z .timed .size)
+
+  pub numbers-sized : 121 ≡ length (r .numbers)
+  numbers-sized = sym (w .settles .numbered z .size)
+
+  pub table-counted : 5 < length s
+  table-counted = let l = built s wrong (length xs) start (length d) lent r new (w .settles) z .long in omega arith
+
+pub judge-accepted : (s xs d lent : List ℕ) (r : Renumbered) (new d′ : List ℕ) → Lays s sequence xs 0 d lent r new d′ → r .verdict .number ≡ 0
+    → (level : Level) → level .number ≡ levelIn d′ (r .count - 1) → (b : Bool) → b ≡ testedIn s (r .clocks) (r .numbers) d′ (length xs)
     → Judges s xs d (record { verdict = r .verdict; level = level; tested = b }) d′
 judge-accepted s xs d lent r new d′ w z level el b eb = record {
   answer = judge-answer s (length xs) (length d) (r .verdict) (w .settles .answer);
   accepted = λ _. record {
     level = let (P, a, l) = level-right s sequence (length xs) 0 (length d) lent r new (w .settles) z xs d refl refl d′ (w .rows z) refl in (P, a, rw el l);
-    tested = tested-right s sequence (length xs) 0 (length d) lent r new (w .settles) z xs d refl refl d′ (w .rows z) b eb;
+    tested = tested-right s sequence (length xs) 0 (length d) lent r new (w .settles) z xs d refl refl d′ (w .rows z) refl b eb;
     rows = rowed s sequence (length xs) 0 (length d) lent r new (w .settles) z xs d refl refl d′ (w .rows z);
   };
   refused = λ y. absurd (y z);
 }
 
-pub ends-accepted : (s xs d : List ℕ) (start : ℕ) (lent : List ℕ) (r : Rewriting) (new d′ : List ℕ) → Lays s property xs start d lent r new d′ → r .verdict .number ≡ 0
+pub ends-accepted : (s xs d : List ℕ) (start : ℕ) (lent : List ℕ) (r : Renumbered) (new d′ : List ℕ) → Lays s property xs start d lent r new d′ → r .verdict .number ≡ 0
     → (mask : PositionSet) → mask .bits ≡ wordIn d′ (r .count - 1) start → (w : ℕ) → w ≡ wordIn d′ (r .count - 1) topWord → (top : Bool) → top ≡ has w start
     → EndsMatches s xs d start (record { verdict = r .verdict; mask = mask; top = top }) d′
 ends-accepted s xs d start lent r new d′ w z mask em v ev top et = record {
@@ -295,10 +322,10 @@ ends-accepted s xs d start lent r new d′ w z mask em v ev top et = record {
 
 -- ---- laying
 
-pub lays-refused : (s : List ℕ) (wrong : ℕ) (xs : List ℕ) (start : ℕ) (d lent : List ℕ) (r : Rewriting) (new : List ℕ) → Settles s wrong (length xs) start (length d) lent r new
+pub lays-refused : (s : List ℕ) (wrong : ℕ) (xs : List ℕ) (start : ℕ) (d lent : List ℕ) (r : Renumbered) (new : List ℕ) → Settles s wrong (length xs) start (length d) lent r new
     → ¬ (r .verdict .number ≡ 0) → Lays s wrong xs start d lent r new d
 lays-refused s wrong xs start d lent r new w z = record { settles = w; rows = λ y. absurd (z y); stays = λ _. refl }
 
-pub lays-rows : (s : List ℕ) (wrong : ℕ) (xs : List ℕ) (start : ℕ) (d lent : List ℕ) (r : Rewriting) (new d′ : List ℕ) → Settles s wrong (length xs) start (length d) lent r new
+pub lays-rows : (s : List ℕ) (wrong : ℕ) (xs : List ℕ) (start : ℕ) (d lent : List ℕ) (r : Renumbered) (new d′ : List ℕ) → Settles s wrong (length xs) start (length d) lent r new
     → r .verdict .number ≡ 0 → d′ ≡ filled (take (4 * r .count + 6) new) xs d (r .count) → Lays s wrong xs start d lent r new d′
 lays-rows s wrong xs start d lent r new d′ w z e = record { settles = w; rows = λ _. e; stays = λ y. absurd (y z) }

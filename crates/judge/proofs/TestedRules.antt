@@ -1,17 +1,18 @@
 -- Each rule of the sets is document 02's: where the sets of the operands tell from which positions they are tested, and other tests tell ticks, matches and
 -- what holds, so does the set that the rule makes. For any letters, and for any engine that has such tests. Assumes nothing.
-use mathlib.Core.Path.{_≡_, refl, sym, subst}
-use mathlib.Core.Bool.{Bool, false, not, _||_, _&&_}
-use mathlib.Core.List.{List, [], _∷_}
+use mathlib.Core.Path.{_≡_, refl, sym, ap, subst, _∙_}
+use mathlib.Core.Bool.{Bool, false, not, _||_, _&&_, and-false}
+use mathlib.Core.List.{List}
 use mathlib.Core.Logic.{inl, inr, ⊎-elim}
-use Prim.Native.Nat.{ℕ, zero, suc, _≤_, _<_}
+use Prim.Native.Nat.{ℕ, suc, _≤_, _<_}
+use native.Mathlib.Nat.{eq-or-lt-of-le}
 use native.Mathlib.Omega.{arith}
 use lib.Dec.{T, leb}
 use lib.ListN.{length}
 use borrow.Author.Tests.{le-leb, lt-leb}
 use Rattle.telling.specs.Tells.{Tells, some}
 use Rattle.telling.proofs.Telling.{is-map, is-true, is-or, is-and, is-and-then, is-not, is-some-at, fails, decide, side}
-use Rattle.meaning.specs.Syntax.{Bexp, Seq, Prop, strong, weak, neg, either, both, implies, next, until, under, Clock, free, on}
+use Rattle.meaning.specs.Syntax.{Bexp, Seq, one, Prop, strong, weak, neg, either, both, implies, next, until, under, Clock, free, on}
 use Rattle.meaning.specs.Words.{Word, inside, word, none}
 use Rattle.meaning.specs.Meaning.{satisfies, Match, counts, ticks, Second, Sat}
 use Rattle.meaning.specs.Tested.{UpTo, Tested}
@@ -93,15 +94,27 @@ module _ {A S : Type 0} (reads : A → S → Bool) (xs : List S) (short : length
       tells = λ i h.
           rw (le-leb i (length xs) h)
           (is-map
-          (is-some-at 0 64 (λ l q. let e = ends q in (omega arith, omega arith)) (λ l u v. is-and-then (m i l h) (λ q. let e = ends (q, tt) in hP .tells l (omega arith))))
+          (is-some-at 0 64 (λ l q. let e = ends (q .0) in (omega arith, omega arith)) (λ l u v. is-and-then (m i l h) (λ q. let e = ends q in hP .tells l (omega arith))))
           (λ q. let (l, ((a, u), t)) = q in (l, u, a, t))
           (λ q. let (l, u, a, t) = q in (l, ((a, u), t))));
       past = λ i l. rw (lt-leb i (length xs) l);
     }
       where
         -- a match that is not empty has its last letter inside the record
-        ends : {i l : ℕ} {Z : Type 0} → (Match reads κ r w i (suc l) × (i ≤ l)) × Z → l < length xs
-        ends {i} {l} q = let u = q .0 .1 in match-shut reads κ r xs none tt i (suc l) (omega arith) (q .0 .0)
+        ends : {i l : ℕ} → Match reads κ r w i (suc l) × (i ≤ l) → l < length xs
+        ends {i} {l} q = let u = q .1 in match-shut reads κ r xs none tt i (suc l) (omega arith) (q .0)
+
+  -- the same where R is one letter with no clock: L tells where it matches
+
+  pub letter-tested : {b : Bexp A} {P : Prop A} {L X : ℕ → Bool} → ((i : ℕ) → Tells (L i) (T (satisfies reads (w i) b))) → TestedBy free P X
+      → TestedBy free (implies (one b) P) (λ i. L i && X i)
+  unfolding Tested Match
+  letter-tested {b} {P} {L} {X} m h = record { tells = at; past = λ i l. ap (λ z. L i && z) (h .past i l) ∙ and-false (L i) }
+    where
+      at : (i : ℕ) → i ≤ length xs → Tells (L i && X i) (Tested reads free (implies (one b) P) w i)
+      at i l =
+          is-map (is-and (m i) (h .tells i l)) (λ q. (i, omega arith, (refl, q .0), q .1))
+          (λ q. let (p, u, (e, t), z) = q in (t, subst (λ k. Tested reads free P w k) (omega arith) z))
 
   -- ---- nexttime
 
@@ -116,7 +129,7 @@ module _ {A S : Type 0} (reads : A → S → Bool) (xs : List S) (short : length
       out i u = rw (h .past (suc i) (omega arith)) (record { to = λ z. absurd z; from = λ q. let v = inside-none reads xs i (q .0) in absurd (omega arith) })
 
   -- T tells the ticks of c
-  module _ {c : Bexp A} {T₀ : ℕ → Bool} (tick : (j : ℕ) → Tells (T₀ j) (T (ticks reads c (w j)))) where
+  module _ (c : Bexp A) {T₀ : ℕ → Bool} (tick : (j : ℕ) → Tells (T₀ j) (T (ticks reads c (w j)))) where
     tick-in : (j : ℕ) → T (ticks reads c (w j)) → j < length xs
     tick-in j t = ⊎-elim (λ l. l) (λ l. absurd (out-ticks reads c none (rw (word-out xs none j l) at t))) (side j (length xs))
 
@@ -128,6 +141,10 @@ module _ {A S : Type 0} (reads : A → S → Bool) (xs : List S) (short : length
         is-leading (length xs) i short (λ j q. tick-in j (q .0)) (λ j. is-and-then (tick j) (λ t. g j (tick-in j t)))
         (λ k l. rw (le-leb k (length xs) (omega arith)) (is-not (tick k)))
 
+    -- no tick before j and none after it up to where m lies: a tick there is j
+    between : (m j : ℕ) → (m < j → ¬ T (ticks reads c (w m))) → (suc j ≤ m → ¬ T (ticks reads c (w m))) → T (ticks reads c (w m)) → m ≡ j
+    between m j f g z = ⊎-elim (λ l. absurd (f l z)) (λ l. ⊎-elim (λ e. sym e) (λ h. absurd (g h z)) (eq-or-lt-of-le l)) (side m j)
+
     pub tick-tested : {P : Prop A} {X : ℕ → Bool} → TestedBy (on c) P X → TestedBy (on c) (next P) (firstTick T₀ (length xs) (λ k. firstTick T₀ (length xs) X (suc k)))
     unfolding Tested Second
     tick-tested {P} {X} h = record {
@@ -138,8 +155,8 @@ module _ {A S : Type 0} (reads : A → S → Bool) (xs : List S) (short : length
         at : (i : ℕ) → Tells (firstTick T₀ (length xs) (λ k. firstTick T₀ (length xs) X (suc k)) i) (Tested reads (on c) (next P) w i)
         at i =
             is-map (first (λ j l. first (λ k l. h .tells k (omega arith)) (suc j)) i)
-            (λ q. let (j, u, (y, (k, v, (x, t), f)), e) = q in (k, (j, u, v, y, x, λ m a b z. ?), t))
-            (λ q. let (k, (j, u, v, y, x, e), t) = q in (j, u, (y, (k, v, (x, t), λ m a b z. ?)), λ m a b z. ?))
+            (λ q. let (j, u, (y, (k, v, (x, t), f)), e) = q in (k, (j, u, v, y, x, λ m a b z. between m j (e m a) (λ g. f m g b) z), t))
+            (λ q. let (k, (j, u, v, y, x, e), t) = q in (j, u, (y, (k, v, (x, t), λ m a b z. let d = e m (omega arith) b z in omega arith)), λ m a b z. let d = e m a (omega arith) z in omega arith))
 
   pub under-tested : {κ : Clock A} {c : Bexp A} {P : Prop A} {X : ℕ → Bool} → TestedBy (on c) P X → TestedBy κ (under c P) X
   unfolding Tested

@@ -11,6 +11,7 @@ use Rattle.refusal.specs.Computed.{accepted}
 use Rattle.refusal.proofs.Unique.{Singles, single-when, singles-append, by-verdict}
 use Rattle.meaning.specs.Syntax.{Seq, Prop}
 use Rattle.meaning.specs.Meaning.{Level, Ends}
+use Rattle.meaning.specs.Tested.{Tests}
 use Rattle.meaning.specs.Pairs.{Atom, reading, pairs}
 use Rattle.meaning.proofs.Theorems.{level-unique}
 use Rattle.nodes.specs.NodeClock.{Ref}
@@ -18,12 +19,11 @@ use Rattle.table.specs.Check as Check
 use Rattle.table.proofs.Checking.{table-singles}
 use Rattle.table.proofs.Reading.{uniqueS, uniqueP}
 use Rattle.table.proofs.Theorems.{accepted-root}
-use Rattle.clocks.specs.Clocks.{Clocks}
 use Rattle.writing.specs.Tables.{newTable}
-use Rattle.rewrite.specs.Rewrites.{OfClocks, tooMany}
+use Rattle.rewrite.specs.Rewrites.{tooMany}
 use Rattle.judge.specs.declared.Judgement.{Judgement}
 use Rattle.judge.specs.declared.MatchEnds.{MatchEnds}
-use Rattle.judge.specs.Rows.{Onward}
+use Rattle.judge.specs.Rows.{Onward, Filled}
 use Rattle.settling.specs.Refusals.{judgeRefusals, endsRefusals}
 use Rattle.judge.specs.Judges.{Rowed, Judged, Judges, Ended, EndsMatches}
 use Rattle.settling.proofs.Passing.{judgeRest, endsRest, judge-passes, ends-passes, table-checks, same-clocks, new-accepted}
@@ -44,13 +44,11 @@ ends-singles s n start words =
 -- ---- what an acceptance answers and leaves
 
 module _ (s : List ℕ) (x : Refusal) (rest : List Refusal) (n : NotGiven (Check.refusals s ++ (x ∷ tooMany s ∷ rest))) where
-  -- two of the same of the clocks are the same
-  by-clocks : {P Q : (ℕ → Ref) → Type 0} {A : Type 0} → ((clock : ℕ → Ref) → Clocks s clock → P clock → Q clock → A) → OfClocks s P → OfClocks s Q → A
-  by-clocks {Q = Q} f (clock, right, p) (other, right′, q) =
-      f clock right p (subst Q (same-clocks s x rest n other clock right′ right) q)
-
+  -- the rows of one table, for it has no other clocks
   same-rows : (xs d d′ e′ : List ℕ) → Rowed s xs d d′ → Rowed s xs d e′ → d′ ≡ e′
-  same-rows xs d d′ e′ = by-clocks (λ clock right a b. filled-unique (newTable s clock) xs (new-accepted s x rest n clock right) d d′ e′ a b)
+  same-rows xs d d′ e′ (clock, right, a) (other, right′, b) =
+      filled-unique (newTable s clock) xs (new-accepted s x rest n clock right) d d′ e′ a
+      (subst (λ (κ : ℕ → Ref). Filled (newTable s κ) xs d e′) (same-clocks s x rest n other clock right′ right) b)
 
   same-judgement : (xs d : List ℕ) (r q : Judgement) (d′ e′ : List ℕ) → r .verdict ≡ q .verdict → Judged s xs d r d′ → Judged s xs d q e′ → (r ≡ q) × (d′ ≡ e′)
   same-judgement xs d r q d′ e′ v a b = (λ i. record { verdict = v i; level = levels i; tested = tests i }, same-rows xs d d′ e′ (a .rows) (b .rows))
@@ -65,7 +63,10 @@ module _ (s : List ℕ) (x : Refusal) (rest : List Refusal) (n : NotGiven (Check
       levels = λ i. record { number = numbers i }
 
       tests : r .tested ≡ q .tested
-      tests = by-clocks (λ clock right f g. same-test f g) (a .tested) (b .tested)
+      tests =
+          let (P, f, t) = a .tested in
+          let (Q, g, u) = b .tested in
+          same-test t (subst (λ (Q : Prop Atom). Tells (q .tested) (Tests reading (pairs xs) Q)) (uniqueP g f) u)
 
   same-ends : (xs d : List ℕ) (start : ℕ) (r q : MatchEnds) (d′ e′ : List ℕ) → r .verdict ≡ q .verdict → Ended s xs d start r d′ → Ended s xs d start q e′ → (r ≡ q) × (d′ ≡ e′)
   same-ends xs d start r q d′ e′ v a b = (λ i. record { verdict = v i; mask = record { bits = masks i }; top = tops i }, same-rows xs d d′ e′ (a .rows) (b .rows))

@@ -2,7 +2,7 @@
 -- Assumes nothing.
 use native.Mathlib.Omega.{arith}
 use mathlib.Core.Path.{_≡_, refl, _∙_, subst}
-use mathlib.Core.Logic.{inl, inr, ⊎-elim, _↔_}
+use mathlib.Core.Logic.{_↔_}
 use mathlib.Core.Bool.{Bool}
 use mathlib.Core.List.{List, _∷_, _++_}
 use Prim.Native.Nat.{ℕ, _<_}
@@ -16,15 +16,15 @@ use Rattle.meaning.specs.Syntax.{Bexp, Seq, Prop, free}
 use Rattle.meaning.specs.Words.{none, tops}
 use Rattle.meaning.specs.Meaning.{Level, Ends}
 use Rattle.meaning.specs.Signal.{signal}
+use Rattle.meaning.specs.Tested.{Tests}
 use Rattle.meaning.specs.Pairs.{Atom, reading, pairs}
 use Rattle.meaning.specs.Renaming.{renameC, signalsB, signalsS, signalsP}
 use Rattle.meaning.proofs.Pairing.{length-pairs}
-use Rattle.meaning.proofs.Samples.{satisfies-by-samples, match-by-samples, sat-by-samples, level-by-samples, ends-by-samples}
+use Rattle.meaning.proofs.Samples.{satisfies-by-samples, match-by-samples, sat-by-samples, tests-by-samples, level-by-samples, ends-by-samples}
 use Rattle.nodes.specs.NodeClock.{Ref}
-use Rattle.nodes.specs.Nodes.{nodeAt, root}
+use Rattle.nodes.specs.Nodes.{root}
 use Rattle.nodes.proofs.Built.{Built}
-use Rattle.nodes.proofs.Shapes.{down}
-use Rattle.table.specs.Trees.{SequenceAt, RootS, RootP}
+use Rattle.table.specs.Trees.{RootS, RootP}
 use Rattle.table.specs.Check as Check
 use Rattle.table.proofs.Checking.{sound}
 use Rattle.table.proofs.VersionOne.{signals-boolean, signals-sequence, signals-property}
@@ -36,10 +36,9 @@ use Rattle.nodes.specs.Operators.{sequence, property}
 use Rattle.settling.specs.Refusals.{wrongRoot}
 use Rattle.judge.specs.declared.Judgement.{Judgement}
 use Rattle.judge.specs.declared.MatchEnds.{MatchEnds}
-use Rattle.judge.specs.Tested.{ImpliesAt, Matched, Tested}
-use Rattle.judge.specs.Rows.{Inside, Onward, BooleanRow, SequenceRow, PropertyRow, Filled}
+use Rattle.judge.specs.Rows.{Onward, BooleanRow, SequenceRow, PropertyRow, Filled}
 use Rattle.judge.specs.Judges.{Rowed, Judges, EndsMatches}
-use Rattle.judge.specs.BySamples.{TestedBySamples, RowsBySamples, JudgedBySamples, EndedBySamples}
+use Rattle.judge.specs.BySamples.{RowsBySamples, JudgedBySamples, EndedBySamples}
 
 -- what tells the one tells the other
 is-as-well : {b : Bool} {P Q : Type 0} → Tells b P → P ↔ Q → Tells b Q
@@ -87,7 +86,7 @@ module _ (xs : List ℕ) where
           zero = r .zero;
         }
 
--- ---- the rows and the flag of a table t of version 1 that is accepted
+-- ---- the rows of a table t of version 1 that is accepted
 
 module _ (t xs : List ℕ) (ok : Built t) (first : version t ≡ 1) where
   rows-by-samples : (d d′ : List ℕ) → Filled t xs d d′ → RowsBySamples t xs d′
@@ -102,43 +101,6 @@ module _ (t xs : List ℕ) (ok : Built t) (first : version t ≡ 1) where
         let (Q, e) = signals-property t (count t) (ok .fit) first a h in
         (Q, e, property-row xs _ Q (subst (PropertyRow reading (pairs xs) _) e (f .properties k h P a)));
   }
-
-  matched-by-samples : (k x : ℕ) → ImpliesAt t k x → Matched reading (pairs xs) (SequenceAt (nodeAt t) x) ↔ Matched signal xs (λ q. SequenceAt (nodeAt t) x (signalsS q))
-  unfolding renameC
-  matched-by-samples k x i =
-      let n = length-pairs xs in (
-        λ m.
-            let h = i .inside in
-            let ((l, _, _), _) = down t k (ok .fit k h) (i .node) in
-            let (q, e) = signals-sequence t (count t) (ok .fit) first (m .stands) (omega arith) in
-            let o = m .inside in
-            record {
-              sequence = q;
-              stands = subst (SequenceAt (nodeAt t) x) e (m .stands);
-              start = m .start;
-              end = m .end;
-              longer = m .longer;
-              inside = omega arith;
-              matches = match-by-samples free q xs none (m .start) (m .end) .0 (subst (λ (r : Seq Atom). Inside reading (pairs xs) r (m .start) (m .end)) e (m .matches));
-            },
-        λ m.
-            let o = m .inside in
-            record {
-              sequence = signalsS (m .sequence);
-              stands = m .stands;
-              start = m .start;
-              end = m .end;
-              longer = m .longer;
-              inside = omega arith;
-              matches = match-by-samples free (m .sequence) xs none (m .start) (m .end) .1 (m .matches);
-            },
-      )
-
-  tested-by-samples : Tested t xs ↔ TestedBySamples t xs
-  tested-by-samples = (
-    ⊎-elim inl (λ q. let (k, x, i, m) = q in inr (k, x, i, matched-by-samples k x i .0 m)),
-    ⊎-elim inl (λ q. let (k, x, i, m) = q in inr (k, x, i, matched-by-samples k x i .1 m)),
-  )
 
 -- ---- the answers
 
@@ -174,9 +136,9 @@ module _ (s xs d : List ℕ) (r : Judgement) (d′ : List ℕ) (j : Judges s xs 
             let (Q, e) = signals-property s (count s) (built s xs first x rest judge-none .fit) first a (root-in s xs first x rest judge-none) in
             (Q, subst (RootP s) e a, level-by-samples Q xs _ .0 (subst (λ (P : Prop Atom). Level reading P (pairs xs) (r .level .number)) e l));
         tested =
-            let (clock, right, f) = j .accepted z .tested in
-            let new = new-built s xs first x rest judge-none clock right in
-            (clock, right, is-as-well f (tested-by-samples (newTable s clock) xs new (new-first s xs first x rest judge-none clock right)));
+            let (P, a, t) = j .accepted z .tested in
+            let (Q, e) = signals-property s (count s) (built s xs first x rest judge-none .fit) first a (root-in s xs first x rest judge-none) in
+            (Q, subst (RootP s) e a, is-as-well (subst (λ (P : Prop Atom). Tells (r .tested) (Tests reading (pairs xs) P)) e t) (tests-by-samples Q xs));
         rows = rowed s xs first x rest judge-none d d′ (j .accepted z .rows);
       }
 

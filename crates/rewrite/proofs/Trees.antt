@@ -44,18 +44,18 @@ module _ (s : List ℕ) (ok : Built s) (clock : ℕ → Ref) (right : Clocks s c
 
   -- ---- a node and its operands
 
-  goes : {k : ℕ} {v : Node} → k < n → T k ≡ v → Formed (Suits s k) v
+  pub goes : {k : ℕ} {v : Node} → k < n → T k ≡ v → Formed (Suits s k) v
   goes {k} l e = down s k (ok .fit k l) e
 
-  inside : {k x sort : ℕ} → k < n → Suits s k sort x → x < n
+  pub inside : {k x sort : ℕ} → k < n → Suits s k sort x → x < n
   inside l g = let b = g .0 in omega arith
 
   -- node k has the clock ρ
-  abbrev Has : ℕ → Ref → Type 0
+  abbrev pub Has : ℕ → Ref → Type 0
   Has k ρ = (k < n) × (clock k ≡ ρ)
 
   -- a part has the clock that the node hands down
-  part : {k x sort : ℕ} {v : Node} {ρ : Ref} → Has k ρ → T k ≡ v → Suits s k sort x → Dec.T (leb sequence sort) → Has x (handed v ρ)
+  pub part : {k x sort : ℕ} {v : Node} {ρ : Ref} → Has k ρ → T k ≡ v → Suits s k sort x → Dec.T (leb sequence sort) → Has x (handed v ρ)
   part {sort = sort} h e g l = (inside (h .0) g, part-clock s ok clock right (h .0) (g .2 (leb→le sequence sort l)) ∙ (λ i. handed (e i) (h .1 i)))
 
   -- ---- what stands for a node
@@ -81,7 +81,7 @@ module _ (s : List ℕ) (ok : Built s) (clock : ℕ → Ref) (right : Clocks s c
 
   -- ---- booleans
 
-  boolean-stands : {k : ℕ} {b : Bexp Atom} → BooleanAt T k b → k < n → BooleanAt N (ν k) b
+  pub boolean-stands : {k : ℕ} {b : Bexp Atom} → BooleanAt T k b → k < n → BooleanAt N (ν k) b
   unfolding moved movedNode rowOf nodeOf lookup operators bytesOf booleanBytes
   boolean-stands (b-const e) l = b-const (copied l e refl refl)
   boolean-stands (b-sig e) l = b-sig (copied l e refl refl)
@@ -92,7 +92,7 @@ module _ (s : List ℕ) (ok : Built s) (clock : ℕ → Ref) (right : Clocks s c
   boolean-stands (b-or e d f) l = let (g, j) = goes l e in b-or (copied l e refl refl) (boolean-stands d (inside l g)) (boolean-stands f (inside l j))
 
   -- the condition of a node's clock
-  condition : {k c : ℕ} {b : Bexp Atom} → Has k (onR c) → BooleanAt T c b → BooleanAt N (ν c) b
+  pub condition : {k c : ℕ} {b : Bexp Atom} → Has k (onR c) → BooleanAt T c b → BooleanAt N (ν c) b
   condition {k} {c} h d = boolean-stands d (clock-boolean s ok clock right k c (h .1) .0)
 
   -- ---- sequences

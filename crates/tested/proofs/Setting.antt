@@ -5,7 +5,7 @@ use mathlib.Core.List.{List, []}
 use mathlib.Core.Logic.{⊎-elim}
 use Prim.Native.Nat.{ℕ, zero, suc, _+_, _-_, _^_, _<_, _≤_}
 use native.Mathlib.Omega.{arith}
-use native.Mathlib.Nat.{eq-or-lt-of-le}
+use native.Mathlib.Nat.{eq-or-lt-of-le, le-of-suc-le-suc, not-suc-le-zero}
 use native.Mathlib.Numerals.{add-one}
 use lib.Dec.{eqb, leb, ltb}
 use lib.ListN.{length, getD, set, replicate, length-append, length-set, getD-replicate, List·getD-append, List·getD-eq-default}
@@ -84,6 +84,16 @@ module _ (s clocks numbers rows : List ℕ) (n : ℕ) where
   unfolding setsBelow
   length-below zero = refl
   length-below (suc k) = rw (length-append, length-below k) (omega arith)
+
+  -- the set of a node, whichever nodes come after it
+  pub set-below : (m k : ℕ) → k < m → getD (below m) k 0 ≡ setFrom s clocks numbers rows n (below k) k
+  unfolding setsBelow
+  set-below zero k l = absurd (not-suc-le-zero l)
+  set-below (suc m) k l =
+      ⊎-elim
+      (λ e. rw e (getD-at (below m) _ [] 0 m (length-below m)))
+      (λ h. List·getD-append (below m) _ 0 k (rw length-below h) ∙ set-below m k h)
+      (eq-or-lt-of-le (le-of-suc-le-suc l))
 
   -- the array has the sets of the nodes below k, and nothing after them
   pub record Kept (k : ℕ) (sets : List ℕ) : Type 0 where

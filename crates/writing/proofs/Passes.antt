@@ -44,9 +44,25 @@ ref-on c d e = go (eqb c 255) e
     go true q = cc
     go false q = cc
 
+pub byte-free : (c : ℕ) → refOf c ≡ freeR → eqb c 255 ≡ true
+unfolding refOf
+byte-free c e = go (eqb c 255) e
+  where
+    go : (t : Bool) → cond t freeR (onR c) ≡ freeR → t ≡ true
+    go true q = refl
+    go false q = cc
+
+pub byte-on : (c d : ℕ) → refOf c ≡ onR d → eqb c 255 ≡ false
+unfolding refOf
+byte-on c d e = go (eqb c 255) e
+  where
+    go : (t : Bool) → cond t freeR (onR c) ≡ onR d → t ≡ false
+    go true q = cc
+    go false q = refl
+
 module _ (s clocks numbers : List ℕ) (h : Numbered s clocks numbers) where
   -- the new number of a node
-  number-of : (v : ℕ) → v < count s → getD numbers (namedBy v) 0 ≡ numberOf s (clockBy clocks) v
+  pub number-of : (v : ℕ) → v < count s → getD numbers (namedBy v) 0 ≡ numberOf s (clockBy clocks) v
   unfolding namedBy
   number-of v l = let f = h .timed .table .few in rw (lt-ltb v 120 (omega arith)) (h .right v l)
 
@@ -60,11 +76,11 @@ module _ (s clocks numbers : List ℕ) (h : Numbered s clocks numbers) where
         go true e = refl
         go false e = let b = o .below (eqb-false sort none e) in number-of v (omega arith)
 
-    clock-is : refOf (getD clocks k 0) ≡ clockBy clocks k
+    pub clock-is : refOf (getD clocks k 0) ≡ clockBy clocks k
     clock-is = let f = h .timed .table .few in sym (clock-read clocks k (omega arith))
 
     -- the clock's new number
-    condition : (d : ℕ) → refOf (getD clocks k 0) ≡ onR d → getD numbers (namedBy (getD clocks k 0)) 0 ≡ numberOf s (clockBy clocks) d
+    pub condition : (d : ℕ) → refOf (getD clocks k 0) ≡ onR d → getD numbers (namedBy (getD clocks k 0)) 0 ≡ numberOf s (clockBy clocks) d
     condition d e =
         let (b, o) = clock-boolean s (built (h .timed .table)) (clockBy clocks) (h .timed .right) k d (sym clock-is ∙ e) in
         ap (λ (v : ℕ). getD numbers (namedBy v) 0) (ref-on (getD clocks k 0) d e) ∙ number-of d b

@@ -1,13 +1,23 @@
 -- `judge::judge` meets its contract: a law of Judging.antt at each need. Assumes nothing.
-use native.Mathlib.Omega.{arith}
 use borrow.Author.Needs.{needs}
-use Rattle.judge.proofs.Judging.{four-fit, used-fit, used-within, used-bytes, some, root-there, tested-there, judge-refused, judge-accepted}
+use Rattle.judge.proofs.Judging.{some, root-there, table-counted, clocks-sized, numbers-sized, tested-there, judge-refused, judge-accepted}
 use Rattle.judge.proofs.judge.Statement.{statement}
 use Rattle.judge.proofs.judge.Tie as tie
 
 -- where nothing is refused, the call that laid the rows
 abbrev laid : tie.Else1 → tie.After-lay
 laid e = e .before .before .before .before .before .before
+
+-- when all that the sets ask for is at hand
+module _ (c : tie.After-tested-arg) where
+  abbrev accepts : tie.Else1
+  accepts = c .before .before .before .before .before .before .before .before .before .before
+
+  abbrev counts : tie.After-wide
+  counts = c .before .before .before
+
+  abbrev levels : tie.After-level-of
+  levels = counts .before .before
 
 pub judge-spec : {M : Type 1} → statement M
 judge-spec =
@@ -17,15 +27,14 @@ judge-spec =
     (λ c κs. search needs)
     (λ c. search needs)
     (λ c. search judge-refused)
-    (λ c. search four-fit)
-    (λ c. search used-fit)
     (λ c. search some)
     (λ c κs. search root-there)
-    (λ c.
-    let e = c .before .before in
-    let l = used-within _ _ _ _ _ _ _ _ (laid e .lay .ensures .settles) (e .if1 .left) in
-    omega arith)
-    (λ c. search used-bytes)
-    (λ c κs. search tested-there)
+    (λ c. search table-counted)
+    (λ c κs. search needs)
+    (λ c. search clocks-sized)
+    (λ c. search numbers-sized)
+    (λ c κs. (tested-there _ _ _ _ _ _ _ _ _ (laid (accepts c) .lay .ensures) (accepts c .if1 .left), counts c .wide .ensures))
     (λ c. search needs)
-    (λ c. search judge-accepted))
+    (λ c.
+    let d = c .before in
+    judge-accepted _ _ _ _ _ _ _ (laid (accepts d) .lay .ensures) (accepts d .if1 .left) _ (levels d .level-of .ensures) _ (c .tested .ensures)))
