@@ -23,6 +23,7 @@ use Rattle.cells.specs.Shares.{longest}
 use Rattle.judge.specs.declared.Judgement.{Judgement}
 use Rattle.settling.specs.Refusals.{wrongRoot}
 use Rattle.judge.proofs.Unique.{judge-unique}
+use Rattle.judge.proofs.Demands.{tested-meant}
 use Rattle.linetext.specs.Text.{levelLine, refusedLine}
 use Rattle.line.specs.Program.{tablePart, recordPart, samplesOf, cleared, refusals, LevelLine, LineFor, Says, Told}
 
@@ -55,7 +56,8 @@ line-level s line a z =
     let l = a .accepted z in
     let held = l .judged .accepted (l .accepts) in
     let (P, root, level) = held .level in
-    record { property = P; root = root; number = l .judgement .level .number; level = level; tests = l .judgement .tested; tested = held .tested; is = l .is }
+    let tested = tested-meant (tablePart s) (samplesOf s) cleared (l .judgement) (l .workspace) (l .judged) (l .accepts) P root in
+    record { property = P; root = root; number = l .judgement .level .number; level = level; tests = l .judgement .tested; tested = tested; is = l .is }
 
 -- ---- 997 bytes are enough
 

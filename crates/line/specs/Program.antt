@@ -10,16 +10,15 @@ use Rattle.refusal.specs.First.{Refusal, Answers}
 use Rattle.refusal.specs.Heading.{count}
 use Rattle.meaning.specs.Syntax.{Prop}
 use Rattle.meaning.specs.Meaning.{Level}
+use Rattle.meaning.specs.Tested.{Tests}
 use Rattle.meaning.specs.Pairs.{Atom, reading, pairs}
 use Rattle.nodes.specs.Operators.{sequence}
 use Rattle.table.specs.Trees.{RootP}
 use Rattle.table.specs.Check as Check
-use Rattle.writing.specs.Tables.{newTable}
-use Rattle.rewrite.specs.Rewrites.{OfClocks, tooMany}
+use Rattle.rewrite.specs.Rewrites.{tooMany}
 use Rattle.record.specs.Record as Record
 use Rattle.cells.specs.Shares.{longest}
 use Rattle.judge.specs.declared.Judgement.{Judgement}
-use Rattle.judge.specs.Tested.{Tested}
 use Rattle.settling.specs.Refusals.{wrongRoot}
 use Rattle.judge.specs.Judges.{Judges}
 use Rattle.linetext.specs.Text.{levelLine, refusedLine}
@@ -69,12 +68,12 @@ pub record Says (s d : List ℕ) (r : ℕ) (d′ : List ℕ) : Type 0 where
 
 -- ---- what the theorem on an accepted input speaks of
 
--- the level that the published meaning gives the property at the root of the table part on the pairs of the record's samples, and whether the rewritten table was tested
+-- the level that the published meaning gives the property at the root of the table part on the pairs of the record's samples, and whether they test it
 pub record Told (s line : List ℕ) : Type 0 where
   pub property : Prop Atom
   pub root : RootP (tablePart s) property
   pub number : ℕ
   pub level : Level reading property (pairs (samplesOf s)) number
   pub tests : Bool
-  pub tested : OfClocks (tablePart s) (λ clock. Tells tests (Tested (newTable (tablePart s) clock) (samplesOf s)))
+  pub tested : Tells tests (Tests reading (pairs (samplesOf s)) property)
   pub is : line ≡ levelLine number tests
