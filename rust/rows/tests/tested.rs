@@ -59,6 +59,12 @@ impl Nodes {
         self.add(NOT, p, 0)
     }
 
+    /// `@(c)(P until Q)`.
+    fn until_at_ticks(&mut self, p: u8, q: u8) -> u8 {
+        let until = self.add(UNTIL, p, q);
+        self.add(CLOCK, C, until)
+    }
+
     /// Whether the samples test the table, which is accepted.
     fn tested(&self, samples: &[u64]) -> bool {
         let judgement = judge(&table(2, &self.0), samples, &mut [0; 7800]);
@@ -266,24 +272,21 @@ fn until_under_a_clock_asks_at_the_ticks() {
     // @(c)(strong(c) until strong(c))
     let nodes = Nodes::made(|t| {
         let (p, q) = (t.over(STRONG, C), t.over(STRONG, C));
-        let until = t.add(UNTIL, p, q);
-        t.add(CLOCK, C, until)
+        t.until_at_ticks(p, q)
     });
     nodes.tested_on(&[&[4], &[0, 4]]);
     nodes.untested_on(&[&[], &[0], &[3, 3]]);
     // @(c)((a |-> weak(1)) until not (b |-> weak(1))): no other sample is asked, and none ends it
     let nodes = Nodes::made(|t| {
         let (p, q) = (t.asking(A), t.failing(B));
-        let until = t.add(UNTIL, p, q);
-        t.add(CLOCK, C, until)
+        t.until_at_ticks(p, q)
     });
     nodes.tested_on(&[&[5], &[4, 0, 5], &[4, 1, 6]]);
     nodes.untested_on(&[&[4, 1, 4], &[3], &[4, 3]]);
     // @(c)((a |-> weak(1)) until (b |-> weak(1))) ends at the first tick, where the right side holds
     let nodes = Nodes::made(|t| {
         let (p, q) = (t.asking(A), t.asking(B));
-        let until = t.add(UNTIL, p, q);
-        t.add(CLOCK, C, until)
+        t.until_at_ticks(p, q)
     });
     nodes.tested_on(&[&[5], &[0, 6]]);
     nodes.untested_on(&[&[4, 5], &[0, 4, 6]]);
