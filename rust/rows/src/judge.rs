@@ -18,7 +18,7 @@ struct Call {
     words: usize,
 }
 
-/// Refusals 1 to 9, 12, 13, 10, 14 and 11; with none, the rewritten table in `new`, how it was made in `plan`, and the nodes with their clocks.
+/// Refusals 1 to 9, 12, 13, 10, 14 and 11; with none, the nodes of the table, the rewritten one in `new`, and how it was made in `plan`.
 fn settle<'a>(
     table: &'a [u8],
     call: Call,
@@ -30,7 +30,7 @@ fn settle<'a>(
     if OPERATORS[usize::from(root)].own == call.wrong {
         return Err(Verdict::refusal(12));
     }
-    plan.follow(table.nodes);
+    plan.make(table.nodes);
     let refusals = [
         (plan.all > MOST, 13),
         (call.samples > LONGEST, 10),

@@ -15,6 +15,7 @@ pub struct Plan {
     pub all: usize,
 }
 
+/// A plan is made in place, since its arrays are long to copy: this one is of no nodes yet.
 impl Default for Plan {
     fn default() -> Self {
         Self {
@@ -27,8 +28,8 @@ impl Default for Plan {
 }
 
 impl Plan {
-    /// The clock of each node is that of the node above it, or its condition where that is a clock node.
-    pub fn follow(&mut self, nodes: &[[u8; 4]]) {
+    /// Plans for the nodes. The clock of each is that of the node above it, or its condition where that is a clock node.
+    pub fn make(&mut self, nodes: &[[u8; 4]]) {
         for (k, &[op, x, y, _]) in nodes.iter().enumerate().rev() {
             let operator = OPERATORS[usize::from(op)];
             let own = self.clocks[k];
@@ -70,7 +71,7 @@ pub fn rewrite(table: &[u8], out: &mut [u8]) -> Rewriting {
 fn rewritten(table: &[u8], out: &mut [u8]) -> Result<usize, Verdict> {
     let table = checked(table)?;
     let mut plan = Plan::default();
-    plan.follow(table.nodes);
+    plan.make(table.nodes);
     if plan.all > MOST {
         return Err(Verdict::refusal(13));
     }

@@ -9,6 +9,7 @@ use crate::{Row, PLACES};
 /// Whether the root is tested from place 0. Each property has a set, made of those below it: the places, 0 to n, from which it is tested.
 pub fn tested(nodes: &[[u8; 4]], plan: &Plan, rows: &[Row], n: usize) -> bool {
     let row = |v: u8| &rows[plan.number(v)];
+    // The samples at which the node's clock ticks, if it has one.
     let ticks = |k: usize| plan.clock(k).map(|condition| row(condition)[0]);
     let mut sets = [0; MOST];
     for (k, &[op, x, y, _]) in nodes.iter().enumerate() {
@@ -49,7 +50,7 @@ fn nexttime(p: u64, ticks: Option<u64>) -> u64 {
     }
 }
 
-/// The places from which a tick of the set is reached, with no earlier tick but those of `through`.
+/// The places from which a tick of the set is reached, with no earlier tick but those of `through`. The runs may have places above n: none is reached from there.
 fn reaching(set: u64, through: u64, ticks: u64) -> u64 {
     leading_up(through | !ticks, set & ticks)
 }

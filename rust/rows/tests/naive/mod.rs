@@ -44,7 +44,7 @@ impl<'a> Naive<'a> {
             }
             38 => {
                 let p = self.tested(x);
-                self.each(|i| self.second(k, i).is_some_and(|second| p[second]))
+                self.each(|i| self.next(k, i).is_some_and(|next| p[next]))
             }
             39 => {
                 let (p, q) = (self.tested(x), self.tested(y));
@@ -67,7 +67,7 @@ impl<'a> Naive<'a> {
     }
 
     /// Where nexttime asks its operand: at the second tick, or with no clock one position on.
-    fn second(&self, k: u8, i: usize) -> Option<usize> {
+    fn next(&self, k: u8, i: usize) -> Option<usize> {
         match self.clocks[usize::from(k)] {
             None => (i < self.n).then_some(i + 1),
             Some(_) => self.ticks(k, i, self.n).nth(1),
