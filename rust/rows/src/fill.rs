@@ -1,34 +1,25 @@
 //! The rows of a table without clocks, each from the rows below it.
 use crate::booleans;
 use crate::operators::*;
-use crate::properties::{asked, implies, words};
+use crate::properties;
 use crate::sequences;
 use crate::Row;
 
-/// Fills the row of every node; answers whether the table was tested: it has no `|->`, or one whose sequence has a match that is not empty.
-pub fn fill(nodes: &[[u8; 4]], samples: &[u64], rows: &mut [Row]) -> bool {
+/// Fills the row of every node.
+pub fn fill(nodes: &[[u8; 4]], samples: &[u64], rows: &mut [Row]) {
     let n = samples.len();
-    let (mut any, mut met) = (false, false);
     for (k, &[op, x, y, _]) in nodes.iter().enumerate() {
         let (below, own) = rows.split_at_mut(k);
         let own = &mut own[0];
         match op {
             CONSTANT..=FALLEN => put(own, &[booleans::word(below, samples, op, x, y)]),
             LETTER..=REPEAT => sequences::put(own, below, n, op, x, y),
-            IMPLIES => {
-                let p = asked(&below[usize::from(y)]);
-                let (p, matched) = implies(&below[usize::from(x)], p, n);
-                put(own, &[p.neutral, p.weak, p.strong]);
-                any = true;
-                met |= matched;
-            }
             _ => {
-                let p = words(below, n, op, x, y);
+                let p = properties::words(below, n, op, x, y);
                 put(own, &[p.neutral, p.weak, p.strong]);
             }
         }
     }
-    met || !any
 }
 
 /// A row of a few words, the others 0.

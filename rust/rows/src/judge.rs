@@ -3,7 +3,8 @@ use crate::answers::{Judgement, MatchEnds, Verdict};
 use crate::check::{checked, HEADING, MOST};
 use crate::fill::fill;
 use crate::operators::{OPERATORS, PROPERTY, SEQUENCE};
-use crate::rewrite::{plan, write};
+use crate::rewrite::{write, Plan};
+use crate::tested::tested;
 use crate::{LONGEST, SHARE, TOP};
 
 /// The bytes of the longest rewritten table.
@@ -17,14 +18,19 @@ struct Call {
     words: usize,
 }
 
-/// Refusals 1 to 9, 12, 13, 10, 14 and 11; with none, the rewritten table in `new`, and its count.
-fn settle(table: &[u8], call: Call, new: &mut [u8; ROOM]) -> Result<usize, Verdict> {
+/// Refusals 1 to 9, 12, 13, 10, 14 and 11; with none, the nodes of the table, the rewritten one in `new`, and how it was made in `plan`.
+fn settle<'a>(
+    table: &'a [u8],
+    call: Call,
+    plan: &mut Plan,
+    new: &mut [u8; ROOM],
+) -> Result<&'a [[u8; 4]], Verdict> {
     let table = checked(table)?;
     let root = table.nodes[table.nodes.len() - 1][0];
     if OPERATORS[usize::from(root)].own == call.wrong {
         return Err(Verdict::refusal(12));
     }
-    let plan = plan(table.nodes);
+    plan.make(table.nodes);
     let refusals = [
         (plan.all > MOST, 13),
         (call.samples > LONGEST, 10),
@@ -34,12 +40,14 @@ fn settle(table: &[u8], call: Call, new: &mut [u8; ROOM]) -> Result<usize, Verdi
     if let Some(&(_, number)) = refusals.iter().find(|(applies, _)| *applies) {
         return Err(Verdict::refusal(number));
     }
-    write(&table, &plan, &mut new[..HEADING + 4 * plan.all]);
-    Ok(plan.all)
+    let bytes = HEADING + 4 * plan.all;
+    write(&table, plan, &mut new[..bytes]);
+    Ok(table.nodes)
 }
 
 /// The level at which the property at the table's root holds on the samples, and whether it was tested; leaves the rows in the workspace.
 pub fn judge(table: &[u8], samples: &[u64], workspace: &mut [u64]) -> Judgement {
+    let mut plan = Plan::default();
     let mut new = [0; ROOM];
     let call = Call {
         wrong: SEQUENCE,
@@ -47,8 +55,8 @@ pub fn judge(table: &[u8], samples: &[u64], workspace: &mut [u64]) -> Judgement 
         start: 0,
         words: workspace.len(),
     };
-    let m = match settle(table, call, &mut new) {
-        Ok(m) => m,
+    let nodes = match settle(table, call, &mut plan, &mut new) {
+        Ok(nodes) => nodes,
         Err(verdict) => {
             return Judgement {
                 verdict,
@@ -56,13 +64,14 @@ pub fn judge(table: &[u8], samples: &[u64], workspace: &mut [u64]) -> Judgement 
             }
         }
     };
+    let m = plan.all;
     let rows = &mut workspace.as_chunks_mut().0[..m];
-    let tested = fill(&new[HEADING..].as_chunks().0[..m], samples, rows);
+    fill(&new[HEADING..].as_chunks().0[..m], samples, rows);
     let [neutral, weak, strong] = [0, 1, 2].map(|word| rows[m - 1][word] & 1 == 1);
     Judgement {
         verdict: Verdict::default(),
         level: level(neutral, weak, strong),
-        tested,
+        tested: tested(nodes, &plan, rows, samples.len()),
     }
 }
 
@@ -77,6 +86,7 @@ fn level(neutral: bool, weak: bool, strong: bool) -> u8 {
 
 /// The match ends of the sequence at the table's root, from a start; leaves the rows in the workspace.
 pub fn match_ends(table: &[u8], samples: &[u64], start: usize, workspace: &mut [u64]) -> MatchEnds {
+    let mut plan = Plan::default();
     let mut new = [0; ROOM];
     let call = Call {
         wrong: PROPERTY,
@@ -84,15 +94,13 @@ pub fn match_ends(table: &[u8], samples: &[u64], start: usize, workspace: &mut [
         start,
         words: workspace.len(),
     };
-    let m = match settle(table, call, &mut new) {
-        Ok(m) => m,
-        Err(verdict) => {
-            return MatchEnds {
-                verdict,
-                ..MatchEnds::default()
-            }
-        }
-    };
+    if let Err(verdict) = settle(table, call, &mut plan, &mut new) {
+        return MatchEnds {
+            verdict,
+            ..MatchEnds::default()
+        };
+    }
+    let m = plan.all;
     let rows = &mut workspace.as_chunks_mut().0[..m];
     fill(&new[HEADING..].as_chunks().0[..m], samples, rows);
     MatchEnds {

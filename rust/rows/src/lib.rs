@@ -1,11 +1,10 @@
 //! The judge's row rules in safe Rust, by word operations and without proof: the baseline that the proved judge is measured against.
 //!
-//! It does the same whole work by the same row rules: it checks the table, rewrites the clocks away into an array, fills every row in the
-//! workspace and reads the level off the last one. It is written for speed, and does this otherwise than the proved code:
+//! It does the same whole work by the same rules: it checks the table, rewrites the clocks away into an array, fills every row in the workspace,
+//! reads the level off the last one and asks the clocked table whether it was tested. It is written for speed, and does this otherwise than the proved code:
 //!
 //! - refusals 6, 7 and 9 take two passes over the nodes, not four, and rewriting three, not five;
 //! - the root, the samples, the start and the workspace are asked before the new table is written, not after;
-//! - tested is found in the same pass as the rows, not in one more;
 //! - the places where P fails are moved up once for all starts of `R |-> P`, not the ends of R moved down at each;
 //! - `##0` takes the empty matches out of its second row only where it has some, not always;
 //! - a repetition takes for granted that no match leads back, which the proved code asks of the row first;
@@ -22,6 +21,7 @@ mod operators;
 mod properties;
 mod rewrite;
 mod sequences;
+mod tested;
 mod tops;
 
 pub use answers::{Judgement, MatchEnds, Rewriting, Verdict};

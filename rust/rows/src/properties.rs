@@ -10,7 +10,7 @@ pub struct Suffixes {
     pub strong: u64,
 }
 
-/// The words of a property other than `|->`, from the rows below it.
+/// The words of a property, from the rows below it.
 pub fn words(below: &[Row], n: usize, op: u8, x: u8, y: u8) -> Suffixes {
     let row = |v: u8| &below[usize::from(v)];
     match op {
@@ -19,13 +19,14 @@ pub fn words(below: &[Row], n: usize, op: u8, x: u8, y: u8) -> Suffixes {
         NOT => not(asked(row(x)), n),
         OR => each(asked(row(x)), asked(row(y)), |p, q| p | q),
         AND => each(asked(row(x)), asked(row(y)), |p, q| p & q),
+        IMPLIES => implies(row(x), asked(row(y)), n),
         NEXTTIME => nexttime(asked(row(x)), n),
         _ => until(asked(row(x)), asked(row(y)), n),
     }
 }
 
 /// The words of the property of a row.
-pub fn asked(row: &Row) -> Suffixes {
+fn asked(row: &Row) -> Suffixes {
     Suffixes {
         neutral: row[0],
         weak: row[1],
@@ -81,30 +82,27 @@ fn not(p: Suffixes, n: usize) -> Suffixes {
     }
 }
 
-/// `R |-> P`, and whether R has a match that is not empty. P is asked at the last letter of each, which is its end moved down by one: here
-/// the places where P fails are moved up instead, once for all starts.
-pub fn implies(row: &Row, p: Suffixes, n: usize) -> (Suffixes, bool) {
+/// P is asked at the last letter of each match that is not empty, which is its end moved down by one: here the places where P fails are moved up
+/// instead, once for all starts.
+fn implies(row: &Row, p: Suffixes, n: usize) -> Suffixes {
     let (neutral, weak, strong) = (!p.neutral << 1, !p.weak << 1, !p.strong << 1);
     let mut fails = Suffixes {
         neutral: 0,
         weak: 0,
         strong: 0,
     };
-    let mut met = 0;
     for (&ends, &place) in row[..=n].iter().zip(&PLACES) {
         let ends = ends & !place;
         fails.neutral |= if ends & neutral != 0 { place } else { 0 };
         fails.weak |= if ends & weak != 0 { place } else { 0 };
         fails.strong |= if ends & strong != 0 { place } else { 0 };
-        met |= ends;
     }
     // With a ⊥ tail R is matched on the bar, among letters ⊤ too, and P is then asked in the tail.
     if p.strong >> n & 1 == 0 {
         fails.strong |= row[TOP];
     }
     let all = u64::MAX >> (63 - n);
-    let holds = each(fails, fails, |fails, _| all & !fails);
-    (holds, met != 0)
+    each(fails, fails, |fails, _| all & !fails)
 }
 
 /// P one position on; position n of a tail is followed by itself.
@@ -117,20 +115,25 @@ fn nexttime(p: Suffixes, n: usize) -> Suffixes {
     }
 }
 
-/// U(i) = q(i), or p(i) and U(i + 1); position n is yes with no tail, and with a tail where P or Q holds there. `runs` has the runs of P below n of
-/// a length, and `out` the places from which a shorter run, possibly of none, leads up to a place of Q or to n: the length doubles with each step.
+/// U(i) = q(i), or p(i) and U(i + 1); position n is yes with no tail, and with a tail where P or Q holds there.
 fn until(p: Suffixes, q: Suffixes, n: usize) -> Suffixes {
     let last = 1 << n;
     let inside = last - 1;
-    let mut runs = each(p, p, |p, _| p & inside);
-    let mut out = Suffixes {
+    let runs = each(p, p, |p, _| p & inside);
+    let ends = Suffixes {
         neutral: q.neutral & inside | last,
         weak: q.weak & inside | (p.weak | q.weak) & last,
         strong: q.strong & inside | (p.strong | q.strong) & last,
     };
+    each(runs, ends, leading_up)
+}
+
+/// The places from which a run of the places of `runs`, possibly of none, leads up to one of `out`. `runs` has the starts of the runs of a length, and `out` those
+/// of the shorter ones that lead up: the length doubles with each step.
+pub fn leading_up(mut runs: u64, mut out: u64) -> u64 {
     for d in [1, 2, 4, 8, 16, 32] {
-        out = each(runs, out, |runs, out| out | runs & (out >> d));
-        runs = each(runs, runs, |runs, _| runs & (runs >> d));
+        out |= runs & (out >> d);
+        runs &= runs >> d;
     }
     out
 }

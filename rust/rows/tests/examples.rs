@@ -1,8 +1,10 @@
 //! Document 01's examples, and the small cases that catch a slip. a, b, c are signals 0, 1, 2.
+mod clocked;
 mod tables;
 
+use clocked::{clocked, unclocked};
 use rows::{check, judge, match_ends, rewrite, Verdict};
-use tables::{clocked, node, unclocked, A, B, C};
+use tables::{node, A, B, C};
 
 /// A table of version 1.
 fn table(nodes: &[[u8; 4]]) -> Vec<u8> {

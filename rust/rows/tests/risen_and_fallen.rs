@@ -1,8 +1,10 @@
 //! Version 2: signals that have risen or fallen since the sample before, worked out by hand from document 02's request 2. a, b, c are signals 0, 1, 2.
+mod clocked;
 mod tables;
 
+use clocked::{clocked, unclocked};
 use rows::{check, judge, match_ends, rewrite, Verdict};
-use tables::{clocked, level, node, table, unclocked, A, B, C};
+use tables::{level, node, table, A, B, C};
 
 const ROSE_A: [u8; 4] = [5, 0, 0, 0];
 const FELL_A: [u8; 4] = [6, 0, 0, 0];

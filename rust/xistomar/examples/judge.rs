@@ -70,7 +70,7 @@ fn report(answer: &Result<Judgement, Refusal>, out: &mut impl Write) -> io::Resu
             let level = judgement.level;
             writeln!(out, "{level}: {}", level.meaning())?;
             if !judgement.tested {
-                let meaning = "no |-> has its sequence matched inside the record";
+                let meaning = "from the first sample on no strong or weak was reached";
                 writeln!(out, "not tested: {meaning}")?;
             }
         }

@@ -60,8 +60,8 @@ impl fmt::Display for Level {
 pub struct Judgement {
     /// The level at which the assertion holds.
     pub level: Level,
-    /// Whether the record tested the assertion: it has no `|->`, or some `|->` has its sequence
-    /// matched non-emptily inside the record from some start.
+    /// Whether the record put the assertion to the test: from the first sample on some strong or
+    /// weak was reached, and each `|->` on the way had its left side matched where it was asked.
     pub tested: bool,
 }
 

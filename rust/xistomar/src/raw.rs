@@ -40,7 +40,7 @@ pub struct Judgement {
     pub verdict: Verdict,
     /// The level's number.
     pub level: u8,
-    /// Whether the record tested the assertion.
+    /// Whether the record tested the assertion, as [`crate::Judgement::tested`] says.
     pub tested: bool,
 }
 

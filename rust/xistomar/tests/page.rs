@@ -90,13 +90,65 @@ fn p12_match_ends() {
     assert_eq!((ends.mask, ends.top), (0, true));
 }
 
+/// The program's line for a table that is judged.
+fn line(table: &[u8], samples: &[u64]) -> String {
+    Judge::new().judge(table, samples).unwrap().to_string()
+}
+
 #[test]
-fn an_implication_that_never_started_is_not_tested() {
+fn an_implication_is_tested_where_it_is_asked() {
+    // a |-> strong(b)
     let implies = letters(&[[32, 3, 0], [37, 2, 4]]);
-    let judgement = |samples: &[u64]| Judge::new().judge(&implies, samples).unwrap();
-    assert_eq!(judgement(&[0]).to_string(), "level 3 tested no");
-    assert_eq!(judgement(&[3]).to_string(), "level 3 tested yes");
-    assert_eq!(judgement(&[1]).to_string(), "level 0 tested yes");
+    assert_eq!(line(&implies, &[0]), "level 3 tested no");
+    assert_eq!(line(&implies, &[3]), "level 3 tested yes");
+    assert_eq!(line(&implies, &[1]), "level 0 tested yes");
+    // The match at sample 1 is at a start that is never reached.
+    assert_eq!(line(&implies, &[2, 1]), "level 3 tested no");
+    // a |-> (b |-> strong(a))
+    let nested = letters(&[[16, 0, 0], [32, 4, 0], [37, 3, 5], [37, 2, 6]]);
+    assert_eq!(line(&nested, &[1, 2]), "level 3 tested no");
+    assert_eq!(line(&nested, &[3]), "level 3 tested yes");
+}
+
+#[test]
+fn nexttime_is_tested_with_a_sample_or_a_second_tick() {
+    // nexttime weak(a), which may be asked of the empty suffix
+    let next = over_a(&[[33, 1, 0], [38, 2, 0]]);
+    assert_eq!(line(&next, &[]), "level 2 tested no");
+    assert_eq!(line(&next, &[1]), "level 2 tested yes");
+    // @(a) nexttime weak(a)
+    let clocked = over_a(&[[33, 1, 0], [38, 2, 0], [40, 0, 3]]);
+    assert_eq!(line(&clocked, &[4]), "level 2 tested no");
+    assert_eq!(line(&clocked, &[1, 0]), "level 2 tested no");
+    assert_eq!(line(&clocked, &[1, 0, 1]), "level 3 tested yes");
+}
+
+#[test]
+fn until_is_tested_at_a_position_that_it_comes_to() {
+    // (a |-> weak(1)) until (a |-> weak(1)): the right side holds at sample 0, and ends it there
+    let booleans = [[1, 0, 0], [0, 1, 0]];
+    let left = [[16, 0, 0], [16, 1, 0], [33, 3, 0], [37, 2, 4]];
+    let right = [[16, 0, 0], [16, 1, 0], [33, 7, 0], [37, 6, 8]];
+    let until = table(&[&booleans[..], &left, &right, &[[39, 5, 9]]].concat());
+    assert_eq!(line(&until, &[0, 1]), "level 3 tested no");
+    assert_eq!(line(&until, &[1]), "level 3 tested yes");
+    // not of both sides: the left side fails at sample 0, and ends it there
+    let negated = [[34, 5, 0], [34, 9, 0], [39, 10, 11]];
+    let until = table(&[&booleans[..], &left, &right, &negated].concat());
+    assert_eq!(line(&until, &[0, 1]), "level 0 tested no");
+    // @(a)(strong(a) until strong(a)): there is no tick to ask at
+    let clocked = over_a(&[[32, 1, 0], [16, 0, 0], [32, 3, 0], [39, 2, 4], [40, 0, 5]]);
+    assert_eq!(line(&clocked, &[0]), "level 2 tested no");
+    assert_eq!(line(&clocked, &[0, 1]), "level 3 tested yes");
+}
+
+#[test]
+fn strong_and_weak_are_tested_on_every_record() {
+    for operator in [32, 33] {
+        for samples in [&[][..], &[0], &[1], &[1, 2]] {
+            assert!(line(&a_then_b(operator), samples).ends_with("tested yes"));
+        }
+    }
 }
 
 #[test]
