@@ -35,6 +35,7 @@ fn small(random: &mut Random) -> (Vec<Node>, Vec<u64>) {
         edges: random.pick(&[0, 50, 90]),
         clocks: random.pick(&[5, 30, 60]),
         empties: 8,
+        clocked: false,
         shape: random.pick(&[Shape::Mixed, Shape::Chain]),
         mixed_order: false,
         unused_booleans: 0,
