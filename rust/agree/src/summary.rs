@@ -19,7 +19,7 @@ const DECIDING: [(&str, u8); 4] = [
     ("a clock", 40),
 ];
 
-/// The refusals that each kind can give: a run of the usual size has each of them, some about 20 times.
+/// The refusals that each kind can give: a run of the usual size has each of them, some about 50 times.
 const REFUSALS: [&[usize]; 6] = [
     &[1, 2, 3, 4, 5, 6, 7, 8, 9],
     &[1, 2, 3, 5, 10, 15],

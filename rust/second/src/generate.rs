@@ -13,8 +13,10 @@ use crate::table::{table_bytes, MOST_NODES};
 /// How often, of a hundred cases, one is spoilt somewhere.
 const SPOILT: usize = 40;
 
-/// How often, of a hundred tables, one is guarded, and all of one clocked.
+/// How often, of a hundred tables, one is guarded.
 const GUARDED: usize = 40;
+
+/// How often, of a hundred tables, all of a property is under a clock.
 const CLOCKED: usize = 20;
 
 /// The most words of workspace a case lends.
@@ -160,6 +162,7 @@ fn samples(random: &mut Random, n: usize, signals: &[usize]) -> Vec<u64> {
     let course = course(random);
     let repeats = random.pick(&[0, 0, 30, 70]);
     let noisy = random.percent(10);
+    // So many samples at first have none of the signals.
     let quiet = random.pick(&[0, 0, 0, 1, 2, 3]);
     let mut samples: Vec<u64> = Vec::new();
     for index in 0..n {
@@ -313,6 +316,7 @@ fn rewrite_case(random: &mut Random) -> Case {
 /// A table, samples and a workspace for the judge or for match ends, with one
 /// fault or several when it is to be spoilt.
 fn call(random: &mut Random, root: Sort, spoilt: bool) -> (Vec<u8>, Vec<u64>, usize) {
+    // A damaged table, 5, has the rarest refusals.
     let faults = [1, 2, 3, 4, 5, 5];
     let fault = if spoilt { random.pick(&faults) } else { 0 };
     let again = |random: &mut Random| spoilt && random.percent(12);
@@ -373,6 +377,7 @@ fn ends_case(random: &mut Random) -> Case {
 /// The program on a table and a record.
 fn program_case(random: &mut Random) -> Case {
     let spoilt = random.percent(SPOILT);
+    // A damaged table, 4, has the rarest refusals.
     let faults = [1, 2, 3, 4, 4, 4, 5, 6, 7, 8, 9];
     let fault = if spoilt { random.pick(&faults) } else { 0 };
     let root = if fault == 1 {
