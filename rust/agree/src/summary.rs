@@ -11,7 +11,15 @@ const TESTED: [&str; 2] = ["no", "yes"];
 /// What accepted tables are told apart by: their version, and whether some node asks if a signal has risen or has fallen.
 const TABLES: [&str; 4] = ["version 1", "version 2", "risen", "fallen"];
 
-/// The refusals that each kind can give: a run of the usual size has each of them, some about 20 times.
+/// The operators that decide whether a record tests a table that has them, with their names.
+const DECIDING: [(&str, u8); 4] = [
+    ("|->", 37),
+    ("nexttime", 38),
+    ("until", 39),
+    ("a clock", 40),
+];
+
+/// The refusals that each kind can give: a run of the usual size has each of them, some about 50 times.
 const REFUSALS: [&[usize]; 6] = [
     &[1, 2, 3, 4, 5, 6, 7, 8, 9],
     &[1, 2, 3, 5, 10, 15],
@@ -21,13 +29,14 @@ const REFUSALS: [&[usize]; 6] = [
     &[1, 2, 3, 4, 5, 6, 7, 8, 9, 10, 12, 13],
 ];
 
-/// How many answers there were by kind and number, where 0 is an acceptance, how many of the accepted had a table of each of TABLES, and how many had each level.
+/// How many answers there were by kind and number, where 0 is an acceptance, and how many of the accepted had a table of each of TABLES. Of those judged, how many had each level, how many were tested, and how many of each with each of DECIDING.
 #[derive(Clone, Debug, Default, PartialEq, Eq)]
 pub struct Summary {
     numbers: [[u64; 16]; 6],
     tables: [[u64; 4]; 6],
     levels: [u64; 4],
     tested: [u64; 2],
+    decided: [[u64; 2]; 4],
 }
 
 /// What an answer says: the number of its refusal or 0, and the level and tested where it has them.
@@ -48,6 +57,9 @@ impl Summary {
         if let Some((level, tested)) = told.judged {
             self.levels[level] += 1;
             self.tested[usize::from(tested)] += 1;
+            for (decided, (_, operator)) in self.decided.iter_mut().zip(DECIDING) {
+                decided[usize::from(tested)] += u64::from(has(table(case), operator));
+            }
         }
     }
 
@@ -60,6 +72,10 @@ impl Summary {
         sum(self.tables.as_flattened_mut(), other.tables.as_flattened());
         sum(&mut self.levels, &other.levels);
         sum(&mut self.tested, &other.tested);
+        sum(
+            self.decided.as_flattened_mut(),
+            other.decided.as_flattened(),
+        );
     }
 
     /// How many cases were counted.
@@ -108,20 +124,36 @@ impl Summary {
         for (tested, had) in TESTED.iter().zip(self.tested) {
             ask(format!("tested {tested}"), had, cases / 500);
         }
+        for ((name, _), decided) in DECIDING.iter().zip(self.decided) {
+            for (tested, had) in TESTED.iter().zip(decided) {
+                ask(format!("with {name}, tested {tested}"), had, cases / 500);
+            }
+        }
         lacking
     }
 }
 
-/// 1 for each of TABLES that holds of the table of an accepted case, else 0; a record has none.
+/// 1 for each of TABLES that holds of the table of an accepted case, else 0.
 fn table_counts(case: &Case) -> [u64; 4] {
-    let table = match case {
-        Case::Read { .. } => return [0; 4],
+    let table = table(case);
+    let version = |asked: u8| table.get(3) == Some(&asked);
+    [version(1), version(2), has(table, 5), has(table, 6)].map(u64::from)
+}
+
+/// The table of an accepted case; a record has none.
+fn table(case: &Case) -> &[u8] {
+    match case {
+        Case::Read { .. } => &[],
         Case::Check { table } | Case::Rewrite { table, .. } => table,
         Case::Judge { table, .. } | Case::Ends { table, .. } => table,
         Case::Program { input } => &input[..6 + 4 * usize::from(input[5])],
-    };
-    let has = |asked: u8| table[6..].chunks(4).any(|node| node[0] == asked);
-    [table[3] == 1, table[3] == 2, has(5), has(6)].map(u64::from)
+    }
+}
+
+/// Whether some node of a table has an operator.
+fn has(table: &[u8], operator: u8) -> bool {
+    let mut operators = table.iter().skip(6).step_by(4);
+    operators.any(|&of_node| of_node == operator)
 }
 
 /// The counts of all kinds together.
@@ -191,7 +223,12 @@ impl fmt::Display for Summary {
         writeln!(f, "judged   {judged}")?;
         writeln!(f, "refusals {refusals}")?;
         writeln!(f, "levels   {levels}")?;
-        write!(f, "tested   {tested}")
+        write!(f, "tested   {tested}")?;
+        for ((name, _), decided) in DECIDING.iter().zip(self.decided) {
+            let tested = list(TESTED.iter().zip(decided).rev());
+            write!(f, "\n{name:9}{tested}")?;
+        }
+        Ok(())
     }
 }
 

@@ -1,4 +1,7 @@
 //! The tester, tested: sides that answer wrong on purpose are found out, shrunk and printed.
+mod reading;
+mod tested;
+
 use crate::run::USUAL;
 use crate::{library_answer, Difference, Run, Side, Summary};
 use second::{Answer, Case};
@@ -10,7 +13,12 @@ const RUN: Run = Run {
 
 /// The difference between a wrong side and `second`, and its text.
 fn found(wrong: Side) -> (Box<Difference>, String) {
-    let outcome = RUN.compare(wrong, second::answer);
+    found_in(RUN, wrong)
+}
+
+/// The same in the cases of a run.
+fn found_in(run: Run, wrong: Side) -> (Box<Difference>, String) {
+    let outcome = run.compare(wrong, second::answer);
     let difference = outcome.expect_err("the wrong side was not found out");
     assert_ne!(difference.library, difference.second);
     assert_eq!(difference.library, wrong(&difference.case));
@@ -215,11 +223,15 @@ fn a_seed_fixes_the_cases_and_no_run_passes_on_nothing() {
     assert_eq!(summary.cases(), RUN.cases);
     assert_eq!(summary.lacking(RUN.cases), Vec::<String>::new());
 
+    let of_flags = 2 + 4 * 2;
     let lacking = Summary::default().lacking(20_000);
-    assert_eq!(lacking.len(), 1 + 12 + 5 * 4 + 15 + 4 + 2);
+    assert_eq!(lacking.len(), 1 + 12 + 5 * 4 + 15 + 4 + of_flags);
     assert_eq!(lacking[0], "0 cases, not 20000 or more");
 
     let of_a_kind = 9 + 6 + 11 + 13 + 14 + 12;
     let lacking = Summary::default().lacking(USUAL);
-    assert_eq!(lacking.len(), 1 + 12 + 5 * 4 + of_a_kind + 15 + 4 + 2);
+    assert_eq!(
+        lacking.len(),
+        1 + 12 + 5 * 4 + of_a_kind + 15 + 4 + of_flags
+    );
 }

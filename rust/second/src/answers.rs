@@ -4,8 +4,9 @@ use crate::meaning::Meaning;
 use crate::node::{Node, Sort};
 use crate::record::{self, MOST_SAMPLES};
 use crate::rewriting::rewritten;
-use crate::rows::{rows, tested, WORDS_PER_NODE};
+use crate::rows::{rows, WORDS_PER_NODE};
 use crate::table::{self, table_bytes, Table, MOST_NODES};
+use crate::tested::Testing;
 use crate::verdict::{refuse_if, Verdict};
 use crate::words::Tail;
 
@@ -91,7 +92,7 @@ pub fn judge(table: &[u8], samples: &[u64], workspace: &mut [u64]) -> Judgement 
     match judged {
         Ok((nodes, rewritten)) => {
             leave_rows(&rewritten, samples, workspace);
-            judgement(&nodes, &rewritten, samples)
+            judgement(&nodes, samples)
         }
         Err(refusal) => refused_judgement(refusal),
     }
@@ -99,12 +100,12 @@ pub fn judge(table: &[u8], samples: &[u64], workspace: &mut [u64]) -> Judgement 
 
 /// Judges without a workspace, as if one of any size were lent.
 pub fn level(table: &[u8], samples: &[u64]) -> Judgement {
-    let judged = judge_table(table).and_then(|tables| {
+    let judged = judge_table(table).and_then(|(nodes, _)| {
         refuse_if(samples.len() > MOST_SAMPLES, 10)?;
-        Ok(tables)
+        Ok(nodes)
     });
     match judged {
-        Ok((nodes, rewritten)) => judgement(&nodes, &rewritten, samples),
+        Ok(nodes) => judgement(&nodes, samples),
         Err(refusal) => refused_judgement(refusal),
     }
 }
@@ -166,8 +167,8 @@ fn rewritten_in_limits(nodes: &[Node]) -> Result<Vec<Node>, Verdict> {
     Ok(rewritten)
 }
 
-/// The level by the clocked definitions, and whether the rewriting was tested.
-fn judgement(nodes: &[Node], rewritten: &[Node], samples: &[u64]) -> Judgement {
+/// The level and whether the table was tested, by the clocked definitions.
+fn judgement(nodes: &[Node], samples: &[u64]) -> Judgement {
     let mut meaning = Meaning::new(nodes, samples);
     let root = nodes.len() - 1;
     let mut from_zero = |tail| meaning.satisfies(root, None, 0, tail);
@@ -183,7 +184,7 @@ fn judgement(nodes: &[Node], rewritten: &[Node], samples: &[u64]) -> Judgement {
     Judgement {
         verdict: Verdict::ACCEPTED,
         level,
-        tested: tested(rewritten, samples),
+        tested: Testing::new(&mut meaning).tested(root, None, 0),
     }
 }
 

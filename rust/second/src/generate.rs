@@ -13,6 +13,12 @@ use crate::table::{table_bytes, MOST_NODES};
 /// How often, of a hundred cases, one is spoilt somewhere.
 const SPOILT: usize = 40;
 
+/// How often, of a hundred tables, one is guarded.
+const GUARDED: usize = 40;
+
+/// How often, of a hundred tables, all of a property is under a clock.
+const CLOCKED: usize = 20;
+
 /// The most words of workspace a case lends.
 const MOST_WORKSPACE: usize = 7865;
 
@@ -118,7 +124,11 @@ fn plan(random: &mut Random, root: Sort, size: usize) -> Plan {
         edges: if version == 1 { 0 } else { edges },
         clocks: random.pick(&[0, 0, 5, 12, 25]),
         empties: random.pick(&[0, 3, 8, 15]),
-        shape: random.pick(&shapes),
+        clocked: random.percent(CLOCKED),
+        shape: match random.percent(GUARDED) {
+            true => Shape::Guarded,
+            false => random.pick(&shapes),
+        },
         mixed_order: random.percent(40),
         unused_booleans: random.pick(&[0, 0, 0, 1, 3]),
     }
@@ -147,18 +157,20 @@ fn record_length(random: &mut Random) -> usize {
     }
 }
 
-/// Samples over a few signals, with runs or noise at times.
+/// Samples over a few signals, at times with runs, noise or a quiet beginning.
 fn samples(random: &mut Random, n: usize, signals: &[usize]) -> Vec<u64> {
     let course = course(random);
     let repeats = random.pick(&[0, 0, 30, 70]);
     let noisy = random.percent(10);
+    // So many samples at first have none of the signals.
+    let quiet = random.pick(&[0, 0, 0, 1, 2, 3]);
     let mut samples: Vec<u64> = Vec::new();
-    for _ in 0..n {
+    for index in 0..n {
         let before = samples.last().copied();
         let mut sample = if noisy { random.next() } else { 0 };
         for &signal in signals {
             let was_set = before.unwrap_or(0) >> signal & 1 == 1;
-            let set = u64::from(set_next(random, &course, was_set));
+            let set = u64::from(set_next(random, &course, was_set) && index >= quiet);
             sample = sample & !(1 << signal) | set << signal;
         }
         match before {
@@ -304,7 +316,9 @@ fn rewrite_case(random: &mut Random) -> Case {
 /// A table, samples and a workspace for the judge or for match ends, with one
 /// fault or several when it is to be spoilt.
 fn call(random: &mut Random, root: Sort, spoilt: bool) -> (Vec<u8>, Vec<u64>, usize) {
-    let fault = if spoilt { random.between(1, 5) } else { 0 };
+    // A damaged table, 5, has the rarest refusals.
+    let faults = [1, 2, 3, 4, 5, 5];
+    let fault = if spoilt { random.pick(&faults) } else { 0 };
     let again = |random: &mut Random| spoilt && random.percent(12);
     let root = if fault == 1 || again(random) {
         other_root(root)
@@ -363,7 +377,9 @@ fn ends_case(random: &mut Random) -> Case {
 /// The program on a table and a record.
 fn program_case(random: &mut Random) -> Case {
     let spoilt = random.percent(SPOILT);
-    let fault = if spoilt { random.between(1, 9) } else { 0 };
+    // A damaged table, 4, has the rarest refusals.
+    let faults = [1, 2, 3, 4, 4, 4, 5, 6, 7, 8, 9];
+    let fault = if spoilt { random.pick(&faults) } else { 0 };
     let root = if fault == 1 {
         Sort::Sequence
     } else {

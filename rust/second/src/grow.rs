@@ -16,6 +16,9 @@ pub enum Shape {
     Chain,
     /// Evenly shared, and mostly or of sequences, so that much matches.
     Broad,
+    /// Shared at random, mostly until, and strong and weak on the right of `|->`
+    /// only, so that not every record tests it.
+    Guarded,
 }
 
 /// What kind of table is wanted.
@@ -31,6 +34,8 @@ pub struct Plan {
     /// How often clock nodes and `[*0]` come, against about 100 for all others.
     pub clocks: usize,
     pub empties: usize,
+    /// Have all of a property under a clock.
+    pub clocked: bool,
     pub shape: Shape,
     /// Mix the order of the nodes as far as the rules let it.
     pub mixed_order: bool,
@@ -67,6 +72,7 @@ pub fn grown_once(random: &mut Random, plan: &Plan, size: usize) -> Vec<Node> {
         booleans: Vec::new(),
     };
     let root = match plan.root {
+        Sort::Property if plan.clocked => grower.clocked(size),
         Sort::Property => grower.property(size),
         _ => grower.sequence(size),
     };
@@ -145,20 +151,26 @@ impl Grower<'_> {
     /// A property of about so many nodes.
     fn property(&mut self, size: usize) -> usize {
         if size <= 2 {
-            return self.promotion(1);
+            return self.leaf(1);
         }
         let (first, second) = self.split(size - 1);
         let node = match self.property_operator() {
-            0 => return self.promotion(size - 1),
+            0 => return self.leaf(size - 1),
             1 => Node::NotProperty(self.property(size - 1)),
             2 => Node::OrProperty(self.property(first), self.property(second)),
             3 => Node::AndProperty(self.property(first), self.property(second)),
             4 => Node::Implies(self.sequence(first), self.property(second)),
             5 => Node::Nexttime(self.property(size - 1)),
             6 => Node::Until(self.property(first), self.property(second)),
-            _ => Node::ClockProperty(self.boolean(), self.property(size - 1)),
+            _ => return self.clocked(size - 1),
         };
         self.push(node)
+    }
+
+    /// `@(c) P` over a property of about so many nodes.
+    fn clocked(&mut self, size: usize) -> usize {
+        let (c, p) = (self.boolean(), self.property(size));
+        self.push(Node::ClockProperty(c, p))
     }
 
     /// Which property operator comes next; 0 is strong or weak.
@@ -166,8 +178,54 @@ impl Grower<'_> {
         let clocks = self.plan.clocks;
         match self.plan.shape {
             Shape::Chain => self.random.weighted(&[5, 45, 2, 2, 3, 35, 3, clocks]),
+            Shape::Guarded => self.random.weighted(&[10, 10, 5, 5, 10, 10, 50, clocks]),
             _ => self.random.weighted(&[24, 9, 11, 11, 19, 11, 15, clocks]),
         }
+    }
+
+    /// strong or weak over a sequence of about so many nodes; if guarded, on the
+    /// right of a `|->`, at times with a not or a clock above it.
+    fn leaf(&mut self, size: usize) -> usize {
+        let p = self.promotion(size);
+        if !matches!(self.plan.shape, Shape::Guarded) {
+            return p;
+        }
+        let r = self.guard();
+        let mut guarded = self.push(Node::Implies(r, p));
+        if self.random.percent(40) {
+            guarded = self.push(Node::NotProperty(guarded));
+        }
+        if self.random.percent(self.plan.clocks) {
+            let c = self.boolean();
+            guarded = self.push(Node::ClockProperty(c, guarded));
+        }
+        guarded
+    }
+
+    /// A short sequence for the left of a `|->`.
+    fn guard(&mut self) -> usize {
+        let size = self.random.pick(&[1, 1, 1, 3]);
+        let r = self.sequence(size);
+        match self.random.weighted(&[70, 15, self.plan.empties]) {
+            0 => r,
+            1 => self.later(r),
+            _ => self.or_empty(r),
+        }
+    }
+
+    /// `1[*1:$] ##1 R`: a match from any later letter.
+    fn later(&mut self, r: usize) -> usize {
+        let always = self.push(Node::Constant(1));
+        let letter = self.push(Node::Letter(always));
+        let waits = self.push(Node::Repeat(letter));
+        self.push(Node::Then(waits, r))
+    }
+
+    /// `b[*0] or R`: an empty match, too.
+    fn or_empty(&mut self, r: usize) -> usize {
+        let letter = self.sequence(1);
+        let empty = self.push(Node::Empty(letter));
+        self.push(Node::Either(empty, r))
     }
 
     /// strong or weak over a sequence of about so many nodes.
@@ -187,7 +245,7 @@ impl Grower<'_> {
             Shape::Even | Shape::Broad => total / 2,
             Shape::Left => total - self.random.between(1, 2.min(total - 1)),
             Shape::Right => self.random.between(1, 2.min(total - 1)),
-            Shape::Mixed | Shape::Chain => self.random.between(1, total - 1),
+            Shape::Mixed | Shape::Chain | Shape::Guarded => self.random.between(1, total - 1),
         };
         (first, total - first)
     }

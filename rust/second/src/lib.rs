@@ -1,7 +1,7 @@
 //! A second opinion on clocked assertions over sampled records.
 //!
-//! Every answer follows the definitions of document 01, with request 2 of
-//! document 02, clause by clause, on explicit letters. It is slow on purpose
+//! Every answer follows the definitions of document 01, with requests 2 and 3
+//! of document 02, clause by clause, on explicit letters. It is slow on purpose
 //! and shares nothing with the product.
 
 #![forbid(unsafe_code)]
@@ -23,6 +23,7 @@ mod rows;
 mod shrink;
 mod stored;
 mod table;
+mod tested;
 #[cfg(test)]
 mod tests;
 mod text;

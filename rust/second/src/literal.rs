@@ -186,15 +186,19 @@ impl Literal<'_> {
         let Some(c) = clock else {
             return w.prefix(1).is_none() || self.satisfies(p, None, &w.suffix(1));
         };
+        match self.ticks(c, w)[..] {
+            [_, second, ..] => self.satisfies(p, clock, &w.suffix(second)),
+            _ => w.tail != Tail::Bottom,
+        }
+    }
+
+    /// The sample positions that satisfy c.
+    fn ticks(&self, c: usize, w: &Word) -> Vec<usize> {
         let is_tick = |&at: &usize| match w.letters[at] {
             Letter::Pair(pair) => self.pair(c, pair),
             _ => false,
         };
-        let ticks: Vec<usize> = (0..w.letters.len()).filter(is_tick).collect();
-        match ticks[..] {
-            [_, second, ..] => self.satisfies(p, clock, &w.suffix(second)),
-            _ => w.tail != Tail::Bottom,
-        }
+        (0..w.letters.len()).filter(is_tick).collect()
     }
 
     /// until, with and without a clock: both halves of the rule.
@@ -212,5 +216,47 @@ impl Literal<'_> {
         };
         let met = (0..inside.len()).any(|at| has_q(&inside[at]) && inside[..at].iter().all(has_p));
         met || inside.iter().all(has_p)
+    }
+
+    /// Whether a word without a tail tests a property under a clock.
+    pub fn tested(&self, node: usize, clock: Option<usize>, w: &Word) -> bool {
+        match self.table[node] {
+            Node::Strong(_) | Node::Weak(_) => true,
+            Node::NotProperty(p) => self.tested(p, clock, w),
+            Node::OrProperty(p, q) | Node::AndProperty(p, q) => self.either_tested(p, q, clock, w),
+            Node::Implies(r, p) => (1..=w.letters.len()).any(|k| {
+                self.matches(r, clock, &w.letters[..k]) && self.tested(p, clock, &w.suffix(k - 1))
+            }),
+            Node::Nexttime(p) => match clock {
+                None => !w.letters.is_empty() && self.tested(p, None, &w.suffix(1)),
+                Some(c) => match self.ticks(c, w)[..] {
+                    [_, second, ..] => self.tested(p, clock, &w.suffix(second)),
+                    _ => false,
+                },
+            },
+            Node::Until(p, q) => self.until_tested(p, q, clock, w),
+            Node::ClockProperty(c, p) => self.tested(p, Some(c), w),
+            _ => unreachable!("only properties are asked for here"),
+        }
+    }
+
+    /// Whether a word tests one of two properties.
+    fn either_tested(&self, p: usize, q: usize, clock: Option<usize>, w: &Word) -> bool {
+        self.tested(p, clock, w) || self.tested(q, clock, w)
+    }
+
+    /// Whether a word tests P until Q: some position tests either, and each
+    /// earlier one satisfies P and not Q.
+    fn until_tested(&self, p: usize, q: usize, clock: Option<usize>, w: &Word) -> bool {
+        let positions = match clock {
+            None => (0..w.letters.len()).collect(),
+            Some(c) => self.ticks(c, w),
+        };
+        let tests = |at: usize| self.either_tested(p, q, clock, &w.suffix(at));
+        let goes_on = |&at: &usize| {
+            let w = w.suffix(at);
+            self.satisfies(p, clock, &w) && !self.satisfies(q, clock, &w.bar())
+        };
+        (0..positions.len()).any(|k| tests(positions[k]) && positions[..k].iter().all(goes_on))
     }
 }

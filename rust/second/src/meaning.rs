@@ -49,6 +49,16 @@ impl<'a> Meaning<'a> {
         self
     }
 
+    /// A node of the table.
+    pub fn node(&self, index: usize) -> Node {
+        self.table[index]
+    }
+
+    /// How many samples the record has.
+    pub fn samples(&self) -> usize {
+        self.pairs.len()
+    }
+
     /// The ends of the matches on the pairs followed by the tail.
     pub fn ends(&mut self, node: usize, clock: Option<usize>, start: usize, tail: Tail) -> Ends {
         self.named(Name::Whole(tail)).ends(node, clock, start)

@@ -1,4 +1,4 @@
-//! The rows that judge and match ends leave in the workspace, and "tested".
+//! The rows that judge and match ends leave in the workspace.
 
 use crate::meaning::Meaning;
 use crate::node::{Node, Sort};
@@ -56,23 +56,4 @@ fn property_row(meaning: &mut Meaning, node: usize, n: usize, row: &mut [u64]) {
 /// A word with the bit of a position set or not.
 fn bit(position: usize, set: bool) -> u64 {
     u64::from(set) << position
-}
-
-/// Whether the rewritten table has no `|->`, or some `|->` has its sequence
-/// matched non-emptily inside the record from some start.
-pub fn tested(table: &[Node], samples: &[u64]) -> bool {
-    let mut meaning = Meaning::new(table, samples);
-    let mut none = true;
-    for node in table {
-        if let Node::Implies(r, _) = *node {
-            none = false;
-            for start in 0..samples.len() {
-                let ends = meaning.ends(r, None, start, Tail::Nothing);
-                if ends.iter().any(|&end| end > start) {
-                    return true;
-                }
-            }
-        }
-    }
-    none
 }

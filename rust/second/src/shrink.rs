@@ -284,6 +284,7 @@ fn with_node_below(nodes: &[Node], node: usize) -> Vec<Vec<Node>> {
                 changed.truncate(below + 1);
             }
             tables.push(reached(&changed));
+            tables.push(reached_or_boolean(&changed));
         }
     }
     tables
@@ -340,7 +341,18 @@ fn simpler_booleans(boolean: Node) -> Vec<Node> {
 
 /// The nodes that the root needs, renumbered.
 fn reached(nodes: &[Node]) -> Vec<Node> {
-    let mut needed = vec![false; nodes.len()];
+    with_operands(nodes, vec![false; nodes.len()])
+}
+
+/// The same with all booleans: a row of one may matter that no node uses.
+fn reached_or_boolean(nodes: &[Node]) -> Vec<Node> {
+    let is_boolean = |node: &Node| node.sort() == Sort::Boolean;
+    with_operands(nodes, nodes.iter().map(is_boolean).collect())
+}
+
+/// The nodes wanted and the root with all that they need, renumbered.
+fn with_operands(nodes: &[Node], wanted: Vec<bool>) -> Vec<Node> {
+    let mut needed = wanted;
     if let Some(root) = needed.last_mut() {
         *root = true;
     }

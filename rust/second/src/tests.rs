@@ -1,5 +1,5 @@
 //! The examples of document 01, the small cases of the open points, rising and
-//! falling signals, refusals, and checks over many random cases.
+//! falling signals, what is tested, refusals, and checks over many random cases.
 
 mod counts;
 mod coverage;
@@ -7,6 +7,7 @@ mod examples;
 mod random_cases;
 mod refusals;
 mod rising;
+mod tested;
 mod tools;
 mod versions;
 

@@ -1,6 +1,6 @@
 //! Counting what occurs in some cases and in their answers, by name.
 
-use crate::node::{Node, OPERATORS};
+use crate::node::{clocks, Node, OPERATORS};
 use crate::rewriting::rewritten;
 use crate::table::{checked, Table};
 use crate::{answer, Answer, Case, Verdict};
@@ -128,12 +128,13 @@ impl Counts {
         let number = number(answer);
         self.note(format!("{} {number}", kind(case)));
         self.note(format!("number {number}"));
-        match answer {
-            Answer::Judge(judged, _) if number == 0 => {
+        match (case, answer) {
+            (Case::Judge { table, .. }, Answer::Judge(judged, _)) if number == 0 => {
                 self.note(format!("level {}", judged.level));
                 self.note(format!("tested {}", judged.tested));
+                self.note_inner(table, judged.tested);
             }
-            Answer::Ends(ends, _) if number == 0 => {
+            (_, Answer::Ends(ends, _)) if number == 0 => {
                 self.note(format!("top {}", ends.top));
                 self.note(format!("mask {}", ends.mask.count_ones().min(3)));
             }
@@ -141,6 +142,25 @@ impl Counts {
         }
         if let Some(verdict) = answer.verdict() {
             self.note_fault(case, verdict);
+        }
+    }
+
+    /// Counts which of `|->`, nexttime and until stand below the root, with a
+    /// clock or with none, where the table is tested or is not.
+    fn note_inner(&mut self, table: &[u8], tested: bool) {
+        let Ok(Table { nodes, .. }) = checked(table) else {
+            return;
+        };
+        let clocks = clocks(&nodes);
+        for operator in 37..=39 {
+            for (clocked, name) in [(false, "no clock"), (true, "a clock")] {
+                let is_such = |node: usize| {
+                    nodes[node].parts().0 == operator && clocks[node].is_some() == clocked
+                };
+                if (0..nodes.len() - 1).any(is_such) {
+                    self.note(format!("inner {operator} with {name}, tested {tested}"));
+                }
+            }
         }
     }
 

@@ -61,6 +61,15 @@ fn each<T: ToString>(name: &str, numbers: impl IntoIterator<Item = T>) -> Vec<St
     numbers.into_iter().map(named).collect()
 }
 
+/// `|->`, nexttime and until below the root, with a clock and with none, in
+/// tables that are tested and in tables that are not.
+fn inner() -> Vec<String> {
+    let operators = ["inner 37", "inner 38", "inner 39"];
+    let clocks = ["with no clock, tested", "with a clock, tested"];
+    let named = operators.iter().flat_map(|name| each(name, clocks));
+    named.flat_map(|name| each(&name, [true, false])).collect()
+}
+
 /// Asserts that accepted tables are of version 2 about as often as of version 1.
 fn versions_are_even(counts: &Counts) {
     let [one, two] = ["version 1", "version 2"].map(|name| counts.of(name));
@@ -82,6 +91,7 @@ fn everything_occurs() {
     counts.at_least(60, each("mask", 0..=3));
     counts.at_least(2, each("m", 100..=120));
     counts.at_least(200, FLAGS);
+    counts.at_least(50, inner());
     counts.at_least(200, ["n 0"]);
     counts.at_least(50, ["n 63"]);
     counts.at_least(20, ["m 121"]);
@@ -116,6 +126,7 @@ fn everything_is_stored() {
     counts.at_least(100, each("operator", OPERATORS));
     counts.at_least(50, each("level", 0..=3));
     counts.at_least(50, FLAGS);
+    counts.at_least(10, inner());
     counts.at_least(20, USES);
     counts.at_least(1, FAULTS);
     versions_are_even(&counts);

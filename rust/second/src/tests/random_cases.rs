@@ -7,6 +7,7 @@ use crate::node::{clocks, Node, Sort};
 use crate::random::Random;
 use crate::rewriting::rewritten;
 use crate::table::{checked, table_bytes};
+use crate::tested::Testing;
 use crate::words::Tail;
 use crate::{answer, check, judge, level, line, match_ends, random_case, read, rewrite};
 use crate::{Answer, Case, Verdict};
@@ -34,6 +35,7 @@ fn small(random: &mut Random) -> (Vec<Node>, Vec<u64>) {
         edges: random.pick(&[0, 50, 90]),
         clocks: random.pick(&[5, 30, 60]),
         empties: 8,
+        clocked: false,
         shape: random.pick(&[Shape::Mixed, Shape::Chain]),
         mixed_order: false,
         unused_booleans: 0,
@@ -80,6 +82,11 @@ fn compare(nodes: &[Node], samples: &[u64]) {
                 let said = literal.satisfies(root, None, &suffix);
                 let context = (nodes, samples, i, tail);
                 assert_eq!(said, meaning.satisfies(root, None, i, tail), "{context:?}");
+                if tail == Tail::Nothing {
+                    let said = literal.tested(root, None, &suffix);
+                    let tested = Testing::new(&mut meaning).tested(root, None, i);
+                    assert_eq!(said, tested, "{context:?}");
+                }
                 continue;
             }
             let ends = meaning.ends(root, None, i, tail);

@@ -219,8 +219,24 @@ fn both_sides_of_an_implication() {
     assert_eq!(judged(&[1, 2]), (3, true));
     assert_eq!(judged(&[1, 1]), (3, false));
     assert_eq!(judged(&[0, 0]), (3, false));
-    // From start 1, the sample before is still sample 0.
-    assert_eq!(judged(&[0, 1, 2]), (3, true));
+    // Only from start 1 there is a match.
+    assert_eq!(judged(&[0, 1, 2]), (3, false));
+}
+
+#[test]
+fn a_suffix_is_tested_by_the_pairs_of_the_whole_record() {
+    // nexttime (edge a |-> strong(b)): suffix 1 still knows sample 0.
+    let tested = |edge, samples: &[u64]| {
+        let letters = [edge, (1, 1, 0), (16, 0, 0), (16, 1, 0)];
+        let table = table_2(&[&letters[..], &[(32, 3, 0), (37, 2, 4), (38, 5, 0)]].concat());
+        let judged = judge(&table, samples, &mut [0; 7 * 65]);
+        assert_eq!(judged.verdict, Verdict::ACCEPTED);
+        judged.tested
+    };
+    assert!(tested(ROSE_A, &[0, 1]));
+    assert!(!tested(ROSE_A, &[1, 1]));
+    assert!(tested(FELL_A, &[1, 0]));
+    assert!(!tested(FELL_A, &[0, 0]));
 }
 
 #[test]

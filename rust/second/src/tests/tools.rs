@@ -105,7 +105,7 @@ fn shrunk(differs: fn(&[u8], &[u64]) -> bool) -> Vec<(Vec<u8>, Vec<u64>)> {
         _ => false,
     };
     let mut left = Vec::new();
-    for seed in 0..1_000 {
+    for seed in 0..2_000 {
         let case = random_case(seed);
         if !case_differs(&case) {
             continue;
@@ -157,7 +157,7 @@ fn shrinking_keeps_a_risen_signal_that_matters() {
         judged.verdict.accepted() && judged.level != forgetful.level
     };
     for (table, samples) in shrunk(forgets_the_sample_before) {
-        assert!(table.len() <= 6 + 4 * 6, "{table:?}");
+        assert!(table.len() <= 6 + 4 * 8, "{table:?}");
         assert!(matches!(samples.len(), 2 | 3), "{samples:?}");
     }
 }
