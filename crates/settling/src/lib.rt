@@ -69,7 +69,7 @@ pub fn settle(
     requires { ⌜ length (now new) ≡ 486 ⌝ }
     ensures { λ r. ⌜ Settles (now (b .entry)) wrong n start words (now (new .entry)) r (now (new .exit)) ⌝ }
 {
-    let found = rewrite_numbered(b, new);
+    let mut found = rewrite_numbered(b, new);
     let v = found.verdict;
     let of_the_table = (v.number != 0) & (v.number != 13);
     if of_the_table {
@@ -85,12 +85,6 @@ pub fn settle(
         words,
         SHARE * count,
     );
-    let clocks = found.clocks;
-    let numbers = found.numbers;
-    Renumbered {
-        verdict,
-        count,
-        clocks,
-        numbers,
-    }
+    found.verdict = verdict;
+    found
 }
