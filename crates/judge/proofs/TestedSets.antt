@@ -50,8 +50,7 @@ use Rattle.rewrite.proofs.Trees as Trees
 use Rattle.cells.specs.Shares.{share, longest, bitIn, HasRow}
 use Rattle.cells.specs.Bits.{lastLetter}
 use Rattle.cells.specs.Stored.{set64}
-use Rattle.tested.specs.declared.Standing.{Standing}
-use Rattle.tested.specs.Computed.{isTick, firstTick, nextTested, startsInto, impliesTested, letterMatches, nodeTested, standingOf, setFrom, setsBelow, testedIn, clockThere, nodeThere, Testing}
+use Rattle.tested.specs.Computed.{Standing, isTick, firstTick, nextTested, startsInto, impliesTested, letterMatches, nodeTested, standingOf, setFrom, setsBelow, testedIn, clockThere, nodeThere, Testing}
 use Rattle.tested.proofs.Setting.{set-below}
 use Rattle.judge.specs.Rows.{Filled}
 use Rattle.judge.proofs.WordBits.{in-word, has-word, off-word}
@@ -156,15 +155,15 @@ module _ (s clocks numbers : List ℕ) (ok : Built s) (h : Numbered s clocks num
   on-byte {k} {c} hk = byte-on (getD clocks k 0) c (clock-is s clocks numbers h k (hk .0) ∙ hk .1)
 
   abbrev tickTested : ℕ → (ℕ → Bool) → ℕ → Bool
-  tickTested k X = firstTick (isTick ws n (at k)) n (λ j. firstTick (isTick ws n (at k)) n X (suc j))
+  tickTested k X = firstTick (isTick ws n (at k .clock) (at k .condition)) n (λ j. firstTick (isTick ws n (at k .clock) (at k .condition)) n X (suc j))
 
-  next-free : {k : ℕ} {P : Prop Atom} (X : ℕ → Bool) → Has k freeR → By free P (λ i. X (suc i)) → By free P (nextTested ws n (at k) X)
+  next-free : {k : ℕ} {P : Prop Atom} (X : ℕ → Bool) → Has k freeR → By free P (λ i. X (suc i)) → By free P (nextTested ws n (at k .clock) (at k .condition) X)
   next-free {k} {P} X hk b = subst (λ (t : Bool). By free P (λ i. cond t (X (suc i)) (tickTested k X i))) (sym (free-byte hk)) b
 
-  next-on : {k c : ℕ} {κ : Clock Atom} {P : Prop Atom} (X : ℕ → Bool) → Has k (onR c) → By κ P (tickTested k X) → By κ P (nextTested ws n (at k) X)
+  next-on : {k c : ℕ} {κ : Clock Atom} {P : Prop Atom} (X : ℕ → Bool) → Has k (onR c) → By κ P (tickTested k X) → By κ P (nextTested ws n (at k .clock) (at k .condition) X)
   next-on {k} {κ = κ} {P = P} X hk b = subst (λ (t : Bool). By κ P (λ i. cond t (X (suc i)) (tickTested k X i))) (sym (on-byte hk)) b
 
-  tick-free : {k : ℕ} → Has k freeR → (j : ℕ) → Tells (isTick ws n (at k) j) (T (inside (w j)) × T (counts reading free (w j)))
+  tick-free : {k : ℕ} → Has k freeR → (j : ℕ) → Tells (isTick ws n (at k .clock) (at k .condition) j) (T (inside (w j)) × T (counts reading free (w j)))
   unfolding counts
   tick-free {k} hk j =
       rw (free-byte hk)
@@ -183,13 +182,13 @@ module _ (s clocks numbers : List ℕ) (ok : Built s) (h : Numbered s clocks num
       (⊎-elim (λ u. is-as (row .bits j u) (is-test (satisfies reading (w j) b)))
       (λ u. is-as (row .past j u) (is-false (λ t. let v = satisfied-in b j t in absurd (omega arith)))) (side j n))
 
-  tick-on : {k c : ℕ} {b : Bexp Atom} → Has k (onR c) → BooleanAt nodes c b → (j : ℕ) → Tells (isTick ws n (at k) j) (T (satisfies reading (w j) b))
+  tick-on : {k c : ℕ} {b : Bexp Atom} → Has k (onR c) → BooleanAt nodes c b → (j : ℕ) → Tells (isTick ws n (at k .clock) (at k .condition) j) (T (satisfies reading (w j) b))
   tick-on {k} {c} hk q j =
       rw (on-byte hk)
       (satisfied (clock-boolean s ok clock right k c (hk .1) .0) q (at k .condition) (condition s clocks numbers h k (hk .0) c (clock-is s clocks numbers h k (hk .0) ∙ hk .1)) j)
 
   -- for until, whatever the clock
-  tick : {k : ℕ} {ρ : Ref} {κ : Clock Atom} → Has k ρ → ClockAt nodes ρ κ → (j : ℕ) → Tells (isTick ws n (at k) j) (T (inside (w j)) × T (counts reading κ (w j)))
+  tick : {k : ℕ} {ρ : Ref} {κ : Clock Atom} → Has k ρ → ClockAt nodes ρ κ → (j : ℕ) → Tells (isTick ws n (at k .clock) (at k .condition) j) (T (inside (w j)) × T (counts reading κ (w j)))
   unfolding counts
   tick hk c-free j = tick-free hk j
   tick hk (c-on {b = b} q) j = is-map (tick-on hk q j) (λ t. (word-inside (pairs xs) none j (satisfied-in b j t), t)) (λ z. z .1)
@@ -297,7 +296,7 @@ module _ (s clocks numbers : List ℕ) (ok : Built s) (h : Numbered s clocks num
       subst (λ (v : ℕ). there (getD numbers (namedBy v) 0)) e (rw (number-of s clocks numbers h x (omega arith)) (omega arith))
 
   -- of the condition of its clock
-  clock-there : (k : ℕ) → k < count s → clockThere (length ws) (standingOf s clocks numbers k)
+  clock-there : (k : ℕ) → k < count s → clockThere (length ws) (standingOf s clocks numbers k .clock) (standingOf s clocks numbers k .condition)
   unfolding refOf
   clock-there k l z =
       let c = getD clocks k 0 in

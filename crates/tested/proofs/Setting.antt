@@ -16,6 +16,10 @@ use Rattle.positions.specs.Member.{has, Is}
 use Rattle.refusal.specs.Heading.{count}
 use Rattle.nodes.specs.declared.Raw.{Raw}
 use Rattle.nodes.specs.declared.Node.{Node}
+use Rattle.nodes.specs.declared.Node.the-variants.{Boolean, Sequence, Property}
+use Rattle.nodes.specs.declared.BooleanOp.{BooleanOp}
+use Rattle.nodes.specs.declared.SequenceOp.{SequenceOp}
+use Rattle.nodes.specs.declared.PropertyOp.{PropertyOp}
 use Rattle.nodes.specs.Operators.{nodeOf, Decodes}
 use Rattle.nodes.specs.Nodes.{rawAt, nodeAt}
 use Rattle.nodes.specs.Computed.{namedBy}
@@ -25,8 +29,55 @@ use Rattle.cells.proofs.Loops.{taken-more}
 use Rattle.cells.proofs.Laying.{word-is}
 use Rattle.runs.specs.Runs.{leadsUp}
 use Rattle.runs.proofs.Leading.{led-as}
-use Rattle.tested.specs.declared.Standing.{Standing}
-use Rattle.tested.specs.Computed.{firstTick, untilTested, startsInto, impliesTested, nodeTested, standingOf, setFrom, setsBelow, testedIn, nodeThere, Testing}
+use Rattle.tested.specs.Computed.{Standing, standing, setOf, sequenceThere, propertyThere, nodeThere, isTick, firstTick, nextTested, untilTested, startsInto, impliesTested, letterMatches, propertyTested, nodeTested, standingOf, setFrom, setsBelow, testedIn, Testing}
+
+-- ---- what is looked up
+
+-- the rows that an operator asks for, where its kind is known
+pub there-as : (w : ℕ) (at : Standing) (op kind : PropertyOp) → op ≡ kind → propertyThere w at op → propertyThere w at kind
+there-as w at op kind e p = subst (propertyThere w at) e p
+
+-- a set, and two sets joined, by what the array has
+pub set-is : (r u : ℕ) → r ≡ u → Is r (has u)
+set-is r u e k = rw e
+
+pub sets-joined : (u v x y z : ℕ) → u ≡ x → v ≡ y → Is z (λ k. has u k || has v k) → Is z (λ k. has x k || has y k)
+sets-joined u v x y z eu ev ez k = ez k ∙ ap₂ (λ x y. has x k || has y k) eu ev
+
+pub tick-as : (rows : List ℕ) (n clock c d z : ℕ) → c ≡ d → Is z (isTick rows n clock c) → Is z (isTick rows n clock d)
+tick-as rows n clock c d z e ez k = ez k ∙ ap (λ c. isTick rows n clock c k) e
+
+pub next-as : (rows : List ℕ) (n clock c d u x z : ℕ) → c ≡ d → u ≡ x → Is z (nextTested rows n clock c (has u)) → Is z (nextTested rows n clock d (has x))
+next-as rows n clock c d u x z ec eu ez k = ez k ∙ ap₂ (λ c u. nextTested rows n clock c (has u) k) ec eu
+
+pub implies-as : (rows : List ℕ) (n a b u v x y z : ℕ) → a ≡ b → u ≡ x → v ≡ y → Is z (impliesTested rows n a (has u) (has v)) → Is z (impliesTested rows n b (has x) (has y))
+implies-as rows n a b u v x y z ea eu ev ez k = ez k ∙ (λ i. impliesTested rows n (ea i) (has (eu i)) (has (ev i)) k)
+
+-- ---- a node by its sort
+
+module _ (v : Raw) (node : Node) (dec : Decodes v node) where
+  -- what is said of the decoded node is said of the one that the bytes stand for
+  kind-of : (Q : Node → Type 0) (kind : Node) → node ≡ kind → Q kind → Q (nodeOf v)
+  kind-of Q kind e q = subst Q (sym e ∙ dec .made) q
+
+pub boolean-kind : (rows : List ℕ) (n : ℕ) (at : Standing) (X Y : ℕ → Bool) (z : ℕ) (v : Raw) (node : Node) (o : BooleanOp) → Decodes v node → node ≡ Boolean o → Is z (λ k. false)
+    → Is z (nodeTested rows n at X Y (nodeOf v))
+boolean-kind rows n at X Y z v node o dec e h = kind-of v node dec (λ u. Is z (nodeTested rows n at X Y u)) (Boolean o) e h
+
+pub sequence-kind : (rows : List ℕ) (n : ℕ) (at : Standing) (X Y : ℕ → Bool) (z : ℕ) (v : Raw) (node : Node) (o : SequenceOp) → Decodes v node → node ≡ Sequence o → Is z (letterMatches rows at o)
+    → Is z (nodeTested rows n at X Y (nodeOf v))
+sequence-kind rows n at X Y z v node o dec e h = kind-of v node dec (λ u. Is z (nodeTested rows n at X Y u)) (Sequence o) e h
+
+pub property-kind : (rows : List ℕ) (n : ℕ) (at : Standing) (X Y : ℕ → Bool) (z : ℕ) (v : Raw) (node : Node) (o : PropertyOp) → Decodes v node → node ≡ Property o → Is z (propertyTested rows n at X Y o)
+    → Is z (nodeTested rows n at X Y (nodeOf v))
+property-kind rows n at X Y z v node o dec e h = kind-of v node dec (λ u. Is z (nodeTested rows n at X Y u)) (Property o) e h
+
+-- and the other way round, of what it asks for
+pub sequence-ready : (w : ℕ) (at : Standing) (v : Raw) (node : Node) (o : SequenceOp) → Decodes v node → node ≡ Sequence o → nodeThere w at (nodeOf v) → sequenceThere w at o
+sequence-ready w at v node o dec e h = subst (nodeThere w at) (sym (dec .made) ∙ e) h
+
+pub property-ready : (w : ℕ) (at : Standing) (v : Raw) (node : Node) (o : PropertyOp) → Decodes v node → node ≡ Property o → nodeThere w at (nodeOf v) → propertyThere w at o
+property-ready w at v node o dec e h = subst (nodeThere w at) (sym (dec .made) ∙ e) h
 
 -- ---- the first tick
 
@@ -43,19 +94,17 @@ pub second-made : (T : ℕ → Bool) (n t p f d z : ℕ) → Is t T → Is f (fi
     → Is z (firstTick T n (λ k. firstTick T n (has p) (suc k)))
 second-made T n t p f d z et ef ed ez = first-as T _ n t d z et (λ k. ed k ∙ first-as T (has p) n t p f et (λ k. refl) ef (suc k)) ez
 
--- ---- until, from the sets: t the ticks, e either side tested, p and q the words of P and Q
+-- ---- until: p and q are the words of its two sides
 
-pub until-made : (T : ℕ → Bool) (n t e u v p q h o w out z : ℕ) → Is t T → u ≡ p → v ≡ q → Is h (λ k. has u k && not (has v k)) → Is o (λ k. leb k n && not (has t k))
-    → Is w (λ k. has h k || has o k) → Is out (λ k. has t k && has e k) → Is z (leadsUp (has w) (has out))
-    → Is z (leadsUp (λ k. (has p k && not (has q k)) || (leb k n && not (T k))) (λ k. T k && has e k))
-until-made T n t e u v p q h o w out z et eu ev eh eo ew eout =
-    led-as _ _ w out z
-    (λ k. ew k ∙ ap₂ _||_ (eh k ∙ ap₂ (λ x y. has x k && not (has y k)) eu ev) (eo k ∙ ap (λ b. leb k n && not b) (et k)))
-    (λ k. eout k ∙ ap (λ b. b && has e k) (et k))
+pub until-made : (n t e u v p q h o w out z : ℕ) → u ≡ p → v ≡ q → Is h (λ k. has u k && not (has v k)) → Is o (λ k. leb k n && not (has t k)) → Is w (λ k. has h k || has o k)
+    → Is out (λ k. has t k && has e k) → Is z (leadsUp (has w) (has out))
+    → Is z (leadsUp (λ k. (has p k && not (has q k)) || (leb k n && not (has t k))) (λ k. has t k && has e k))
+until-made n t e u v p q h o w out z eu ev eh eo ew eout =
+    led-as _ _ w out z (λ k. ew k ∙ ap₂ _||_ (eh k ∙ ap₂ (λ x y. has x k && not (has y k)) eu ev) (eo k)) eout
 
--- the set of either side, by its places
-pub either-as : (rows : List ℕ) (n : ℕ) (at : Standing) (E : ℕ → Bool) (e z : ℕ) → Is e E → Is z (untilTested rows n at (has e)) → Is z (untilTested rows n at E)
-either-as rows n at E e z ee ez k = ez k ∙ ap (λ f. untilTested rows n at f k) (fun-ext ee)
+-- the ticks, and the set of either side, are known by their places
+pub until-as : (rows : List ℕ) (n : ℕ) (T E : ℕ → Bool) (t e z a b a′ b′ : ℕ) → Is t T → Is e E → a ≡ a′ → b ≡ b′ → Is z (untilTested rows n (has t) a b (has e)) → Is z (untilTested rows n T a′ b′ E)
+until-as rows n T E t e z a b a′ b′ et ee ea eb ez k = ez k ∙ (λ i. untilTested rows n (fun-ext et i) (ea i) (eb i) (fun-ext ee i) k)
 
 -- ---- a match whose last letter is in the set
 
@@ -111,48 +160,38 @@ module _ (s clocks numbers rows : List ℕ) (n : ℕ) where
       let e : k ≡ count s = omega arith in
       er ∙ ap (λ x. has x 0) (h .have (m - 1) ∙ ap₂ (λ k m. getD (below k) (m - 1) 0) e em)
 
-  -- what is looked up for node k
-  module _ (k : ℕ) (v : Raw) (ev : v ≡ rawAt s k) (clock : ℕ) (ec : clock ≡ getD clocks k 0) (condition : ℕ) (ed : condition ≡ getD numbers (namedBy clock) 0)
-      (a : ℕ) (ea : a ≡ getD numbers (namedBy (v .x)) 0) (b : ℕ) (eb : b ≡ getD numbers (namedBy (v .y)) 0) (node : Node) (dec : Decodes v node) where
-    abbrev at : Standing
-    at = record { clock = clock; condition = condition; a = a; b = b }
+  -- the set w of node k, made from the array, is stored
+  module _ (k : ℕ) (sets : List ℕ) (h : Kept k sets) (l : k < 121) (w : ℕ) (fits : w < 2 ^ 64)
+      (e : Is w (nodeTested rows n (standingOf s clocks numbers k) (setOf sets (rawAt s k .x)) (setOf sets (rawAt s k .y)) (nodeAt s k))) where
+    word-made : w ≡ setFrom s clocks numbers rows n (below k) k
+    word-made =
+        word-is w _ fits e
+        ∙ (λ t. set64 (nodeTested rows n (standingOf s clocks numbers k) (has (h .have (namedBy (rawAt s k .x)) t)) (has (h .have (namedBy (rawAt s k .y)) t)) (nodeAt s k)))
 
-    row-at : (a : ℕ) (f : Raw → ℕ) → a ≡ getD numbers (namedBy (f v)) 0 → a ≡ getD numbers (namedBy (f (rawAt s k))) 0
-    row-at a f e = e ∙ ap (λ v. getD numbers (namedBy (f v)) 0) ev
+    pub kept-more : Kept (k + 1) (set sets k w)
+    unfolding setsBelow
+    kept-more = record {
+      long = length-set sets k w ∙ h .long;
+      have = λ m.
+          rw (add-one k)
+          (⊎-elim
+          (λ u. getD-set-other sets k m w 0 (λ z. omega arith) ∙ h .have m ∙ sym (List·getD-append (below k) _ 0 m (rw length-below u)))
+          (λ u.
+          ⊎-elim
+          (λ z. rw (← z) (getD-set-same sets k w 0 (rw (h .long) l) ∙ word-made ∙ sym (getD-at (below k) _ [] 0 k (length-below k))))
+          (λ z. getD-set-other sets k m w 0 (λ y. omega arith) ∙ h .have m ∙ List·getD-eq-default (below k) 0 (rw length-below u) ∙ sym (List·getD-eq-default (below (suc k)) 0 (rw (length-below (suc k)) z)))
+          (eq-or-lt-of-le u))
+          (side m k));
+    }
 
-    at-is : at ≡ standingOf s clocks numbers k
-    at-is =
-        let d : condition ≡ getD numbers (namedBy (getD clocks k 0)) 0 = ed ∙ ap (λ c. getD numbers (namedBy c) 0) ec in
-        λ t. record { clock = ec t; condition = d t; a = row-at a (λ v. v .x) ea t; b = row-at b (λ v. v .y) eb t }
+  -- as the code has it: v is the node's bytes
+  pub kept-node : (k : ℕ) (sets : List ℕ) → Kept k sets → k < 121 → (v : Raw) → v ≡ rawAt s k → (w : ℕ) → w < 2 ^ 64
+      → Is w (nodeTested rows n (standing numbers (getD clocks k 0) v) (setOf sets (v .x)) (setOf sets (v .y)) (nodeOf v)) → Kept (k + 1) (set sets k w)
+  kept-node k sets h l v ev w fits e =
+      kept-more k sets h l w fits
+      (subst (λ (v : Raw). Is w (nodeTested rows n (standing numbers (getD clocks k 0) v) (setOf sets (v .x)) (setOf sets (v .y)) (nodeOf v))) ev e)
 
-    node-is : node ≡ nodeAt s k
-    node-is = dec .made ∙ ap nodeOf ev
-
-    -- the rows that it asks for are there
-    pub rows-there : Testing s clocks numbers rows n → (m : ℕ) → k < m → m ≡ count s → nodeThere (length rows) at node
-    rows-there t m l em = subst (λ (at : Standing). nodeThere (length rows) at node) (sym at-is) (subst (nodeThere (length rows) (standingOf s clocks numbers k)) (sym node-is) (t .ready k (rw (← em) l)))
-
-    -- its set w, from those of the nodes i and j, is stored
-    module _ (sets : List ℕ) (h : Kept k sets) (l : k < 121) (i : ℕ) (ei : i ≡ namedBy (v .x)) (j : ℕ) (ej : j ≡ namedBy (v .y)) (w : ℕ) (fits : w < 2 ^ 64)
-        (e : Is w (nodeTested rows n at (has (getD sets i 0)) (has (getD sets j 0)) node)) where
-      set-at : (i : ℕ) (f : Raw → ℕ) → i ≡ namedBy (f v) → getD sets i 0 ≡ getD (below k) (namedBy (f (rawAt s k))) 0
-      set-at i f ei = h .have i ∙ ap (λ i. getD (below k) i 0) (ei ∙ ap (λ v. namedBy (f v)) ev)
-
-      set-is : w ≡ setFrom s clocks numbers rows n (below k) k
-      set-is = word-is w _ fits e ∙ (λ t. set64 (nodeTested rows n (at-is t) (has (set-at i (λ v. v .x) ei t)) (has (set-at j (λ v. v .y) ej t)) (node-is t)))
-
-      pub kept-more : Kept (k + 1) (set sets k w)
-      unfolding setsBelow
-      kept-more = record {
-        long = length-set sets k w ∙ h .long;
-        have = λ m.
-            rw (add-one k)
-            (⊎-elim
-            (λ u. getD-set-other sets k m w 0 (λ z. omega arith) ∙ h .have m ∙ sym (List·getD-append (below k) _ 0 m (rw length-below u)))
-            (λ u.
-            ⊎-elim
-            (λ z. rw (← z) (getD-set-same sets k w 0 (rw (h .long) l) ∙ set-is ∙ sym (getD-at (below k) _ [] 0 k (length-below k))))
-            (λ z. getD-set-other sets k m w 0 (λ y. omega arith) ∙ h .have m ∙ List·getD-eq-default (below k) 0 (rw length-below u) ∙ sym (List·getD-eq-default (below (suc k)) 0 (rw (length-below (suc k)) z)))
-            (eq-or-lt-of-le u))
-            (side m k));
-      }
+  -- the rows that node k asks for are there
+  pub rows-there : Testing s clocks numbers rows n → (k m : ℕ) → k < m → m ≡ count s → (v : Raw) → v ≡ rawAt s k
+      → nodeThere (length rows) (standing numbers (getD clocks k 0) v) (nodeOf v)
+  rows-there t k m l em v ev = subst (λ (v : Raw). nodeThere (length rows) (standing numbers (getD clocks k 0) v) (nodeOf v)) (sym ev) (t .ready k (rw (← em) l))

@@ -9,6 +9,7 @@ use lib.ListN.{length, getD}
 use Rattle.telling.specs.Tells.{some}
 use Rattle.positions.specs.Member.{has}
 use Rattle.refusal.specs.Heading.{count}
+use Rattle.nodes.specs.declared.Raw.{Raw}
 use Rattle.nodes.specs.declared.Node.{Node}
 use Rattle.nodes.specs.declared.Node.the-variants.{Boolean, Sequence, Property}
 use Rattle.nodes.specs.declared.SequenceOp.{SequenceOp}
@@ -21,26 +22,43 @@ use Rattle.cells.specs.Shares.{longest, bitIn, HasRow}
 use Rattle.cells.specs.Bits.{lastLetter}
 use Rattle.cells.specs.Stored.{set64}
 use Rattle.runs.specs.Runs.{leadsUp}
-use Rattle.tested.specs.declared.Standing.{Standing}
+
+-- what a node names, by the rows that stand for it: its clock with the row of the condition, and the rows of its operands
+pub record Standing : Type 0 where
+  pub clock : ℕ
+  pub condition : ℕ
+  pub a : ℕ
+  pub b : ℕ
+
+abbrev pub standing : List ℕ → ℕ → Raw → Standing
+standing numbers clock v = record {
+  clock = clock;
+  condition = getD numbers (namedBy clock) 0;
+  a = getD numbers (namedBy (v .x)) 0;
+  b = getD numbers (namedBy (v .y)) 0;
+}
+
+-- the set of the node that a byte names
+abbrev pub setOf : List ℕ → ℕ → ℕ → Bool
+setOf sets v = has (getD sets (namedBy v) 0)
 
 -- ---- a node's set, where X and Y are those of its operands
 
--- the positions at which it looks: with no clock (255) every sample, else those that satisfy the condition
-abbrev pub isTick : List ℕ → ℕ → Standing → ℕ → Bool
-isTick rows n at i = cond (eqb (at .clock) 255) (ltb i n) (bitIn rows (at .condition) 0 i)
+-- the positions at which it looks: with no clock (255) every sample, else those that satisfy the condition of row c
+abbrev pub isTick : List ℕ → ℕ → ℕ → ℕ → ℕ → Bool
+isTick rows n clock c i = cond (eqb clock 255) (ltb i n) (bitIn rows c 0 i)
 
 -- from i on, the first position of T is there and in G
 unfoldable pub firstTick : (ℕ → Bool) → ℕ → (ℕ → Bool) → ℕ → Bool
 firstTick T n G = leadsUp (λ k. leb k n && not (T k)) (λ k. T k && G k)
 
-abbrev pub nextTested : List ℕ → ℕ → Standing → (ℕ → Bool) → ℕ → Bool
-nextTested rows n at P i =
-    cond (eqb (at .clock) 255) (P (suc i)) (firstTick (isTick rows n at) n (λ k. firstTick (isTick rows n at) n P (suc k)) i)
+abbrev pub nextTested : List ℕ → ℕ → ℕ → ℕ → (ℕ → Bool) → ℕ → Bool
+nextTested rows n clock c P i =
+    cond (eqb clock 255) (P (suc i)) (firstTick (isTick rows n clock c) n (λ k. firstTick (isTick rows n clock c) n P (suc k)) i)
 
--- E: either side is tested
-abbrev pub untilTested : List ℕ → ℕ → Standing → (ℕ → Bool) → ℕ → Bool
-untilTested rows n at E =
-    leadsUp (λ k. (bitIn rows (at .a) 0 k && not (bitIn rows (at .b) 0 k)) || (leb k n && not (isTick rows n at k))) (λ k. isTick rows n at k && E k)
+-- T: the ticks; a and b: the rows of the two sides; E: either side is tested
+abbrev pub untilTested : List ℕ → ℕ → (ℕ → Bool) → ℕ → ℕ → (ℕ → Bool) → ℕ → Bool
+untilTested rows n T a b E = leadsUp (λ k. (bitIn rows a 0 k && not (bitIn rows b 0 k)) || (leb k n && not (T k))) (λ k. T k && E k)
 
 -- from i some match of row a, not empty, has its last letter in P
 abbrev pub startsInto : List ℕ → ℕ → ℕ → (ℕ → Bool) → ℕ → Bool
@@ -57,8 +75,8 @@ propertyTested rows n at X Y (Negated p) i = X i
 propertyTested rows n at X Y (AnyOf p q) i = X i || Y i
 propertyTested rows n at X Y (BothOf p q) i = X i || Y i
 propertyTested rows n at X Y (Implies r p) i = impliesTested rows n (at .a) X Y i
-propertyTested rows n at X Y (Next p) i = nextTested rows n at X i
-propertyTested rows n at X Y (Until p q) i = untilTested rows n at (λ k. X k || Y k) i
+propertyTested rows n at X Y (Next p) i = nextTested rows n (at .clock) (at .condition) X i
+propertyTested rows n at X Y (Until p q) i = untilTested rows n (isTick rows n (at .clock) (at .condition)) (at .a) (at .b) (λ k. X k || Y k) i
 propertyTested rows n at X Y (Ticked c p) i = Y i
 
 -- the samples that a letter with no clock matches
@@ -79,20 +97,15 @@ nodeTested rows n at X Y (Property o) i = propertyTested rows n at X Y o i
 -- ---- the sets of a table's nodes
 
 module _ (s clocks numbers : List ℕ) where
-  -- the rows that stand for what node k names
+  -- what node k names
   abbrev pub standingOf : ℕ → Standing
-  standingOf k = record {
-    clock = getD clocks k 0;
-    condition = getD numbers (namedBy (getD clocks k 0)) 0;
-    a = getD numbers (namedBy (rawAt s k .x)) 0;
-    b = getD numbers (namedBy (rawAt s k .y)) 0;
-  }
+  standingOf k = standing numbers (getD clocks k 0) (rawAt s k)
 
   module _ (rows : List ℕ) (n : ℕ) where
     -- the set of node k, from the sets of the nodes below it
     abbrev pub setFrom : List ℕ → ℕ → ℕ
     setFrom sets k =
-        set64 (nodeTested rows n (standingOf k) (has (getD sets (namedBy (rawAt s k .x)) 0)) (has (getD sets (namedBy (rawAt s k .y)) 0)) (nodeAt s k))
+        set64 (nodeTested rows n (standingOf k) (setOf sets (rawAt s k .x)) (setOf sets (rawAt s k .y)) (nodeAt s k))
 
     -- the sets of the nodes below k
     unfoldable pub setsBelow : ℕ → List ℕ
@@ -105,8 +118,8 @@ module _ (s clocks numbers : List ℕ) where
 
 -- ---- what the code asks: the rows that a node's rule reads lie within the first w words
 
-abbrev pub clockThere : ℕ → Standing → Type 0
-clockThere w at = (¬ (at .clock ≡ 255)) → HasRow w (at .condition)
+abbrev pub clockThere : ℕ → ℕ → ℕ → Type 0
+clockThere w clock c = (¬ (clock ≡ 255)) → HasRow w c
 
 abbrev pub sequenceThere : ℕ → Standing → SequenceOp → Type 0
 sequenceThere w at (Letter b) = HasRow w (at .a)
@@ -124,8 +137,8 @@ propertyThere w at (Negated p) = Unit {0}
 propertyThere w at (AnyOf p q) = Unit {0}
 propertyThere w at (BothOf p q) = Unit {0}
 propertyThere w at (Implies r p) = HasRow w (at .a)
-propertyThere w at (Next p) = clockThere w at
-propertyThere w at (Until p q) = HasRow w (at .a) × HasRow w (at .b) × clockThere w at
+propertyThere w at (Next p) = clockThere w (at .clock) (at .condition)
+propertyThere w at (Until p q) = HasRow w (at .a) × HasRow w (at .b) × clockThere w (at .clock) (at .condition)
 propertyThere w at (Ticked c p) = Unit {0}
 
 abbrev pub nodeThere : ℕ → Standing → Node → Type 0

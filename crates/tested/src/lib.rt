@@ -5,6 +5,7 @@ use cells::word_at;
 use clocks::UNCLOCKED;
 use nodes::Node;
 use nodes::PropertyOp;
+use nodes::Raw;
 use nodes::SequenceOp;
 use nodes::decode;
 use nodes::named;
@@ -18,27 +19,20 @@ ghost use Prim.Native.Nat.{_≤_};
 ghost use lib.ListN.{length, getD};
 ghost use Rattle.positions.specs.Member.{has, Is};
 ghost use Rattle.refusal.specs.Heading.{count};
+ghost use Rattle.nodes.specs.Operators.{nodeOf};
 ghost use Rattle.nodes.specs.Computed.{namedBy};
 ghost use Rattle.cells.specs.Shares.{longest, HasRow};
-ghost use Rattle.tested.specs.Computed.{isTick, firstTick, nextTested, untilTested, startsInto, impliesTested, propertyTested, letterMatches, nodeTested, clockThere, sequenceThere, propertyThere, nodeThere, testedIn, Testing};
+ghost use Rattle.tested.specs.Computed.{isTick, firstTick, nextTested, untilTested, startsInto, impliesTested, propertyTested, letterMatches, nodeTested, standing, setOf, clockThere, sequenceThere, propertyThere, nodeThere, testedIn, Testing};
 
-// The rows that stand for what a node names: its clock with the row of the condition, and the rows a and b of its operands.
-pub struct Standing {
-    pub clock: u8,
-    pub condition: usize,
-    pub a: usize,
-    pub b: usize,
-}
-
-// The positions at which a property under the clock looks: the ticks, and with no clock all samples.
-fn ticks_of(rows: &[u64], n: usize, at: Standing) -> PositionSet
-    requires { ⌜ clockThere (length (now rows)) at × (n ≤ longest) ⌝ }
-    ensures { λ r. ⌜ Is (r .bits) (isTick (now (rows .entry)) n at) ⌝ }
+// The positions at which a property under the clock looks: the ticks, where row c has the condition, and with no clock all samples.
+fn ticks_of(rows: &[u64], n: usize, clock: u8, c: usize) -> PositionSet
+    requires { ⌜ clockThere (length (now rows)) clock c × (n ≤ longest) ⌝ }
+    ensures { λ r. ⌜ Is (r .bits) (isTick (now (rows .entry)) n clock c) ⌝ }
 {
-    if at.clock == UNCLOCKED {
+    if clock == UNCLOCKED {
         return all_samples(n);
     }
-    word_at(rows, at.condition, 0)
+    word_at(rows, c, 0)
 }
 
 // The positions from which the first tick, at the position itself or later, is in the set.
@@ -53,25 +47,30 @@ fn first_tick(ticks: PositionSet, n: usize, set: PositionSet) -> PositionSet
 }
 
 // Of nexttime P: P is tested one position on; under a clock at the second tick.
-fn next_set(rows: &[u64], n: usize, at: Standing, p: PositionSet) -> PositionSet
-    requires { ⌜ clockThere (length (now rows)) at × (n ≤ longest) ⌝ }
-    ensures { λ r. ⌜ Is (r .bits) (nextTested (now (rows .entry)) n at (has (p .bits))) ⌝ }
+fn next_set(rows: &[u64], n: usize, clock: u8, c: usize, p: PositionSet) -> PositionSet
+    requires { ⌜ clockThere (length (now rows)) clock c × (n ≤ longest) ⌝ }
+    ensures { λ r. ⌜ Is (r .bits) (nextTested (now (rows .entry)) n clock c (has (p .bits))) ⌝ }
 {
-    if at.clock == UNCLOCKED {
+    if clock == UNCLOCKED {
         return p.down();
     }
-    let ticks = ticks_of(rows, n, at);
+    let ticks = ticks_of(rows, n, clock, c);
     first_tick(ticks, n, first_tick(ticks, n, p).down())
 }
 
-// Of P until Q: at a tick one of the two is tested, and at each earlier one P holds and Q does not.
-fn until_set(rows: &[u64], n: usize, at: Standing, either: PositionSet) -> PositionSet
-    requires { ⌜ HasRow (length (now rows)) (at .a) × HasRow (length (now rows)) (at .b) ⌝ }
-    requires { ⌜ clockThere (length (now rows)) at × (n ≤ longest) ⌝ }
-    ensures { λ r. ⌜ Is (r .bits) (untilTested (now (rows .entry)) n at (has (either .bits))) ⌝ }
+// Of P until Q, of rows a and b: at a tick one of the two is tested, and at each earlier one P holds and Q does not.
+fn until_set(
+    rows: &[u64],
+    n: usize,
+    ticks: PositionSet,
+    a: usize,
+    b: usize,
+    either: PositionSet,
+) -> PositionSet
+    requires { ⌜ HasRow (length (now rows)) a × HasRow (length (now rows)) b × (n ≤ longest) ⌝ }
+    ensures { λ r. ⌜ Is (r .bits) (untilTested (now (rows .entry)) n (has (ticks .bits)) a b (has (either .bits))) ⌝ }
 {
-    let ticks = ticks_of(rows, n, at);
-    let holds = word_at(rows, at.a, 0).without(word_at(rows, at.b, 0));
+    let holds = word_at(rows, a, 0).without(word_at(rows, b, 0));
     lead(Led {
         runs: holds.joined(ticks.others(n)),
         out: ticks.common(either),
@@ -103,63 +102,13 @@ fn implies_set(rows: &[u64], n: usize, a: usize, r: PositionSet, p: PositionSet)
     r.common(p)
 }
 
-// The positions from which a property is tested, where x and y are the sets of its operands.
-fn property_set(
-    rows: &[u64],
-    n: usize,
-    op: PropertyOp,
-    at: Standing,
-    x: PositionSet,
-    y: PositionSet,
-) -> PositionSet
-    requires { ⌜ propertyThere (length (now rows)) at op × (n ≤ longest) ⌝ }
-    ensures { λ r. ⌜ Is (r .bits) (propertyTested (now (rows .entry)) n at (has (x .bits)) (has (y .bits)) op) ⌝ }
+// The set of the node that a byte names.
+fn set_for(sets: &[u64], v: u8) -> PositionSet
+    requires { ⌜ length (now sets) ≡ 121 ⌝ }
+    ensures { λ r. ⌜ r .bits ≡ getD (now (sets .entry)) (namedBy v) 0 ⌝ }
 {
-    match op {
-        PropertyOp::Strong(_) => PositionSet::full(n),
-        PropertyOp::Weak(_) => PositionSet::full(n),
-        PropertyOp::Negated(_) => x,
-        PropertyOp::AnyOf(_, _) => x.joined(y),
-        PropertyOp::BothOf(_, _) => x.joined(y),
-        PropertyOp::Implies(_, _) => implies_set(rows, n, at.a, x, y),
-        PropertyOp::Next(_) => next_set(rows, n, at, x),
-        PropertyOp::Until(_, _) => until_set(rows, n, at, x.joined(y)),
-        PropertyOp::Ticked(_, _) => y,
-    }
-}
-
-// The samples that a letter with no clock matches, so that `|->` over it is one meeting of two sets; of any other sequence none.
-fn letter_set(rows: &[u64], op: SequenceOp, at: Standing) -> PositionSet
-    requires { ⌜ sequenceThere (length (now rows)) at op ⌝ }
-    ensures { λ r. ⌜ Is (r .bits) (letterMatches (now (rows .entry)) at op) ⌝ }
-{
-    match op {
-        SequenceOp::Letter(_) => word_at(rows, at.a, 0).only_if(at.clock == UNCLOCKED),
-        SequenceOp::Then(_, _) => PositionSet::empty(),
-        SequenceOp::Fused(_, _) => PositionSet::empty(),
-        SequenceOp::Either(_, _) => PositionSet::empty(),
-        SequenceOp::Empty(_) => PositionSet::empty(),
-        SequenceOp::Repeat(_) => PositionSet::empty(),
-        SequenceOp::Clocked(_, _) => PositionSet::empty(),
-    }
-}
-
-// The set of a node; a boolean has none.
-fn node_set(
-    rows: &[u64],
-    n: usize,
-    node: Node,
-    at: Standing,
-    x: PositionSet,
-    y: PositionSet,
-) -> PositionSet
-    requires { ⌜ nodeThere (length (now rows)) at node × (n ≤ longest) ⌝ }
-    ensures { λ r. ⌜ Is (r .bits) (nodeTested (now (rows .entry)) n at (has (x .bits)) (has (y .bits)) node) ⌝ }
-{
-    match node {
-        Node::Boolean(_) => PositionSet::empty(),
-        Node::Sequence(op) => letter_set(rows, op, at),
-        Node::Property(op) => property_set(rows, n, op, at, x, y),
+    PositionSet {
+        bits: sets[named(v)],
     }
 }
 
@@ -171,29 +120,100 @@ fn row_for(numbers: &[u8], v: u8) -> usize
     wide(numbers[named(v)])
 }
 
+// The positions from which a property is tested: the node v under the clock, from the sets below it.
+fn property_set(
+    rows: &[u64],
+    n: usize,
+    numbers: &[u8],
+    sets: &[u64],
+    clock: u8,
+    v: Raw,
+    op: PropertyOp,
+) -> PositionSet
+    requires { ⌜ propertyThere (length (now rows)) (standing (now numbers) clock v) op × (n ≤ longest) ⌝ }
+    requires { ⌜ (length (now numbers) ≡ 121) × (length (now sets) ≡ 121) ⌝ }
+    ensures { λ r. ⌜ Is (r .bits) (propertyTested (now (rows .entry)) n (standing (now (numbers .entry)) clock v) (setOf (now (sets .entry)) (v .x)) (setOf (now (sets .entry)) (v .y)) op) ⌝ }
+{
+    let x = v.x;
+    let y = v.y;
+    match op {
+        PropertyOp::Strong(_) => PositionSet::full(n),
+        PropertyOp::Weak(_) => PositionSet::full(n),
+        PropertyOp::Negated(_) => set_for(sets, x),
+        PropertyOp::AnyOf(_, _) => set_for(sets, x).joined(set_for(sets, y)),
+        PropertyOp::BothOf(_, _) => set_for(sets, x).joined(set_for(sets, y)),
+        PropertyOp::Implies(_, _) => implies_set(
+            rows,
+            n,
+            row_for(numbers, x),
+            set_for(sets, x),
+            set_for(sets, y),
+        ),
+        PropertyOp::Next(_) => next_set(rows, n, clock, row_for(numbers, clock), set_for(sets, x)),
+        PropertyOp::Until(_, _) => {
+            let ticks = ticks_of(rows, n, clock, row_for(numbers, clock));
+            let either = set_for(sets, x).joined(set_for(sets, y));
+            until_set(
+                rows,
+                n,
+                ticks,
+                row_for(numbers, x),
+                row_for(numbers, y),
+                either,
+            )
+        }
+        PropertyOp::Ticked(_, _) => set_for(sets, y),
+    }
+}
+
+// The samples that a letter with no clock matches, so that `|->` over it is one meeting of two sets; of any other sequence none.
+fn letter_set(rows: &[u64], numbers: &[u8], clock: u8, v: Raw, op: SequenceOp) -> PositionSet
+    requires { ⌜ sequenceThere (length (now rows)) (standing (now numbers) clock v) op × (length (now numbers) ≡ 121) ⌝ }
+    ensures { λ r. ⌜ Is (r .bits) (letterMatches (now (rows .entry)) (standing (now (numbers .entry)) clock v) op) ⌝ }
+{
+    match op {
+        SequenceOp::Letter(_) => word_at(rows, row_for(numbers, v.x), 0).only_if(
+            clock == UNCLOCKED,
+        ),
+        SequenceOp::Then(_, _) => PositionSet::empty(),
+        SequenceOp::Fused(_, _) => PositionSet::empty(),
+        SequenceOp::Either(_, _) => PositionSet::empty(),
+        SequenceOp::Empty(_) => PositionSet::empty(),
+        SequenceOp::Repeat(_) => PositionSet::empty(),
+        SequenceOp::Clocked(_, _) => PositionSet::empty(),
+    }
+}
+
+// The set of the node v; a boolean has none.
+fn node_set(rows: &[u64], n: usize, numbers: &[u8], sets: &[u64], clock: u8, v: Raw) -> PositionSet
+    requires { ⌜ nodeThere (length (now rows)) (standing (now numbers) clock v) (nodeOf v) × (n ≤ longest) ⌝ }
+    requires { ⌜ (length (now numbers) ≡ 121) × (length (now sets) ≡ 121) ⌝ }
+    ensures { λ r. ⌜ Is (r .bits) (nodeTested (now (rows .entry)) n (standing (now (numbers .entry)) clock v) (setOf (now (sets .entry)) (v .x)) (setOf (now (sets .entry)) (v .y)) (nodeOf v)) ⌝ }
+{
+    let node = decode(v);
+    match node {
+        Node::Boolean(_) => PositionSet::empty(),
+        Node::Sequence(op) => letter_set(rows, numbers, clock, v, op),
+        Node::Property(op) => property_set(rows, n, numbers, sets, clock, v, op),
+    }
+}
+
 // Whether the root of the m nodes is tested from position 0.
-pub fn tested(b: &[u8], m: usize, clocks: &[u8], numbers: &[u8], rows: &[u64], n: usize) -> bool
+pub fn tested<'a>(
+    b: &[u8],
+    m: usize,
+    clocks: &'a [u8],
+    numbers: &'a [u8],
+    rows: &[u64],
+    n: usize,
+) -> bool
     requires { ⌜ Testing (now b) (now clocks) (now numbers) (now rows) n × (m ≡ count (now b)) ⌝ }
     ensures { λ r. ⌜ r ≡ testedIn (now (b .entry)) (now (clocks .entry)) (now (numbers .entry)) (now (rows .entry)) n ⌝ }
 {
     let mut sets = [0; 121];
     let mut k: usize = 0;
     while k < m {
-        let v = node_at(b, k);
-        let clock = clocks[k];
-        let at = Standing {
-            clock,
-            condition: row_for(numbers, clock),
-            a: row_for(numbers, v.x),
-            b: row_for(numbers, v.y),
-        };
-        let x = PositionSet {
-            bits: sets[named(v.x)],
-        };
-        let y = PositionSet {
-            bits: sets[named(v.y)],
-        };
-        let set = node_set(rows, n, decode(v), at, x, y);
+        let set = node_set(rows, n, numbers, &sets, clocks[k], node_at(b, k));
         sets[k] = set.bits;
         k += 1;
     }

@@ -8,7 +8,8 @@ letter-set-spec =
     tie.close
     (tie.spec
     (λ c. search needs)
-    (λ c κs. let p = rw (c .enum-told .given .1) at (c .before .before .before .pre) in (p, search needs))
+    (λ c κs. search needs)
+    (λ c κs. let p = rw (c .before .enum-told .given .1) at (c .before .before .before .before .before .pre .0) in (rw (c .row-for .ensures) p, search needs))
     (λ c κs. search needs)
     (λ c. search needs)
     (λ c κs. search needs)
@@ -22,7 +23,7 @@ letter-set-spec =
     (λ c κs. search needs)
     (λ c. search needs)
     (λ c κs. search needs)
-    (λ c k. rw (c .before .before .before .enum-told .given .1) (simp (c .only-if .ensures k, c .before .before .word-at .ensures)))
+    (λ c k. rw (c .before .before .before .enum-told .given .1) (simp (c .only-if .ensures k, c .before .word-at .ensures, c .before .before .row-for .ensures)))
     (λ c. rw (c .before .enum-told2 .given .1) (c .empty .ensures))
     (λ c. rw (c .before .enum-told3 .given .1) (c .empty2 .ensures))
     (λ c. rw (c .before .enum-told4 .given .1) (c .empty3 .ensures))

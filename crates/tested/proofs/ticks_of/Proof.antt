@@ -10,5 +10,5 @@ ticks-of-spec =
     (tie.spec
     (λ c κs. search needs)
     (λ c k. rw (eq-eqb _ 255 (c .before .if1 .taken)) (c .all-samples .ensures k))
-    (λ c κs. (c .before .before .before .pre .0 (c .if1 .left), search needs))
+    (λ c κs. (c .before .before .pre .0 (c .if1 .left), search needs))
     (λ c k. rw (ne-eqb _ 255 (c .before .if1 .left), c .word-at .ensures)))

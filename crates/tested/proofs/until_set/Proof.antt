@@ -15,12 +15,10 @@ until-set-spec =
     (λ c κs. search needs)
     (λ c κs. search needs)
     (λ c κs. search needs)
-    (λ c κs. search needs)
     (λ c.
     let out = c .before in
     let joined = out .before in
     let others = joined .before in
     let holds = others .before in
     let second = holds .before in
-    let first = second .before in
-    until-made _ _ _ _ _ _ _ _ _ _ _ _ _ (first .before .ticks-of .ensures) (first .word-at .ensures) (second .word-at2 .ensures) (holds .without .ensures) (others .others .ensures) (joined .joined .ensures) (out .common .ensures) (c .lead .ensures)))
+    until-made _ _ _ _ _ _ _ _ _ _ _ _ (second .before .word-at .ensures) (second .word-at2 .ensures) (holds .without .ensures) (others .others .ensures) (joined .joined .ensures) (out .common .ensures) (c .lead .ensures)))
