@@ -8,9 +8,9 @@ ghost use mathlib.Core.Path.{_≡_};
 ghost use mathlib.Core.Bool.{cond};
 ghost use Prim.Native.Nat.{_≤_};
 ghost use lib.Dec.{eqb};
+ghost use lib.ListN.{replicate};
 ghost use Rattle.refusal.specs.Heading.{count};
-ghost use Rattle.clocks.specs.Clocks.{Clocks};
-ghost use Rattle.clocks.specs.Computed.{AcceptedTable, clockBy, partOf};
+ghost use Rattle.clocks.specs.Computed.{AcceptedTable, partOf, Timed};
 
 // A clock as a byte: the number of its condition, or this one, which no node has.
 pub const UNCLOCKED: u8 = 255;
@@ -30,12 +30,11 @@ fn handed_down(row: Row, x: u8, own: u8) -> u8
     if row.block == 0 { x } else { own }
 }
 
-// The clocks of the n nodes, from the root down.
-pub fn clocks_of(b: &[u8], n: usize) -> [u8; 121]
-    requires { ⌜ AcceptedTable (now b) × (n ≡ count (now b)) ⌝ }
-    ensures { λ r. ⌜ Clocks (now (b .entry)) (clockBy r) ⌝ }
+// The clocks of the n nodes, from the root down, in bytes that are lent with no clock in them.
+pub fn clocks_of(b: &[u8], n: usize, clocks: &mut [u8])
+    requires { ⌜ AcceptedTable (now b) × (n ≡ count (now b)) × (now clocks ≡ replicate 121 255) ⌝ }
+    ensures { λ _. ⌜ Timed (now (b .entry)) (now (clocks .exit)) ⌝ }
 {
-    let mut clocks = [UNCLOCKED; 121];
     let mut p = n;
     while 0 < p {
         p = p - 1;
@@ -45,5 +44,4 @@ pub fn clocks_of(b: &[u8], n: usize) -> [u8; 121]
         clocks[part(r.x, v.x)] = c;
         clocks[part(r.y, v.y)] = c;
     }
-    clocks
 }

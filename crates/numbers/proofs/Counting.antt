@@ -9,7 +9,7 @@ use mathlib.Core.Bool.{Bool, true, false, not, cond}
 use mathlib.Core.List.{List}
 use Prim.Native.Nat.{ℕ, _+_, _*_, _-_, _<_, _≤_}
 use lib.Dec.{eqb}
-use lib.ListN.{length, getD, set, replicate, length-set}
+use lib.ListN.{length, getD, set, length-set}
 use lib.Seq.{getD-set-same, getD-set-other}
 use Rattle.refusal.specs.Heading.{count}
 use Rattle.nodes.specs.declared.operators.Row.{Row}
@@ -190,9 +190,9 @@ module _ (s clocks : List ℕ) where
       let w = j .all in
       (record { booleans = f; all = w }, (omega arith, omega arith))
 
-  pub begun-none : (counts : Counts) → CountsOf s clocks counts → Begun s clocks 0 (replicate 121 0) 0 (counts .booleans)
+  pub begun-none : (counts : Counts) → CountsOf s clocks counts → (numbers : List ℕ) → length numbers ≡ 121 → Begun s clocks 0 numbers 0 (counts .booleans)
   unfolding sum
-  begun-none counts e = record { size = refl; booleans = refl; others = e .booleans ∙ sym (add-zero _); right = λ j l. absurd (not-suc-le-zero l) }
+  begun-none counts e numbers n = record { size = n; booleans = refl; others = e .booleans ∙ sym (add-zero _); right = λ j l. absurd (not-suc-le-zero l) }
 
   pub begun-all : Timed s clocks → (n : ℕ) → n ≡ count s → (k : ℕ) → k ≤ n → n ≤ k → (numbers : List ℕ) (first later : ℕ) → Begun s clocks k numbers first later
       → Numbered s clocks numbers

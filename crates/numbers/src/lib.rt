@@ -8,6 +8,7 @@ use refusal::wide;
 ghost use mathlib.Core.Path.{_≡_};
 ghost use mathlib.Core.Bool.{cond, false};
 ghost use Prim.Native.Nat.{_*_, _-_, _<_, _≤_};
+ghost use lib.ListN.{length};
 ghost use Rattle.refusal.specs.Heading.{count};
 ghost use Rattle.clocks.specs.Computed.{refOf, Timed};
 ghost use Rattle.numbers.specs.Numbers.{lengthUnder};
@@ -74,13 +75,12 @@ fn stands(clock: bool, operand: u8, end: usize) -> u8
     if clock { operand } else { low(end - 1) }
 }
 
-// The new numbers of the n nodes, where there are so many new nodes.
-pub fn numbers_of(b: &[u8], n: usize, clocks: &[u8], counts: Counts) -> [u8; 121]
+// The new numbers of the n nodes, where there are so many new nodes, in the bytes lent.
+pub fn numbers_of(b: &[u8], n: usize, clocks: &[u8], counts: Counts, numbers: &mut [u8])
     requires { ⌜ Timed (now b) (now clocks) × (n ≡ count (now b)) ⌝ }
-    requires { ⌜ CountsOf (now b) (now clocks) counts × (counts .all ≤ 120) ⌝ }
-    ensures { λ r. ⌜ Numbered (now (b .entry)) (now (clocks .entry)) r ⌝ }
+    requires { ⌜ CountsOf (now b) (now clocks) counts × (counts .all ≤ 120) × (length (now numbers) ≡ 121) ⌝ }
+    ensures { λ _. ⌜ Numbered (now (b .entry)) (now (clocks .entry)) (now (numbers .exit)) ⌝ }
 {
-    let mut numbers = [0; 121];
     let mut first: usize = 0;
     let mut later = counts.booleans;
     let mut k: usize = 0;
@@ -96,5 +96,4 @@ pub fn numbers_of(b: &[u8], n: usize, clocks: &[u8], counts: Counts) -> [u8; 121
         later = later + choose(boolean, 0, long);
         k = k + 1;
     }
-    numbers
 }

@@ -7,8 +7,9 @@ use refusal::Verdict;
 use refusal::wide;
 use writing::put_table;
 ghost use mathlib.Core.Path.{_≡_};
+ghost use lib.ListN.{length, replicate};
 ghost use Rattle.rewrite.specs.Rewrites.{Rewrites};
-ghost use Rattle.rewrite.specs.Computed.{rewritingOf, refusedRewriting, Renumbers};
+ghost use Rattle.rewrite.specs.Computed.{refusedRewriting, renumbered, Renumbers};
 
 // What rewriting answers: the verdict, and m, the count of new nodes.
 #[repr(C)]
@@ -17,50 +18,40 @@ pub struct Rewriting {
     pub count: usize,
 }
 
-// What rewriting answers, with the clock and the new number of each node where it accepts.
-pub struct Renumbered {
-    pub verdict: Verdict,
-    pub count: usize,
-    pub clocks: [u8; 121],
-    pub numbers: [u8; 121],
-}
-
-// A refusal, with no clocks and no numbers.
-fn unnumbered(number: u8, node: usize) -> Renumbered
-    ensures { λ r. ⌜ rewritingOf r ≡ refusedRewriting number node ⌝ }
+// A refusal, with count 0.
+fn refused(number: u8, node: usize) -> Rewriting
+    ensures { λ r. ⌜ r ≡ refusedRewriting number node ⌝ }
 {
-    Renumbered {
+    Rewriting {
         verdict: Verdict { number, node },
         count: 0,
-        clocks: [UNCLOCKED; 121],
-        numbers: [0; 121],
     }
 }
 
-// Refusals 1 to 9, 13 and 15, the first that applies; with none, the rewritten table in the first bytes of `out`, and what it made of each node.
-pub fn rewrite_numbered(b: &[u8], out: &mut [u8]) -> Renumbered
-    ensures { λ r. ⌜ Renumbers (now (b .entry)) (now (out .entry)) r (now (out .exit)) ⌝ }
+// Refusals 1 to 9, 13 and 15, the first that applies; with none, the rewritten table in the first bytes of `out`, and what it made of each node: its clock,
+// in bytes that are lent with none, and its new number.
+pub fn rewrite_numbered(b: &[u8], out: &mut [u8], clocks: &mut [u8], numbers: &mut [u8]) -> Rewriting
+    requires { ⌜ (now clocks ≡ replicate 121 255) × (length (now numbers) ≡ 121) ⌝ }
+    ensures { λ r. ⌜ Renumbers (now (b .entry)) (now (out .entry)) (renumbered r (now (clocks .exit)) (now (numbers .exit))) (now (out .exit)) ⌝ }
 {
     let v = table::check(b);
     if v.number != 0 {
-        return unnumbered(v.number, v.node);
+        return refused(v.number, v.node);
     }
     let n = wide(b[5]);
-    let clocks = clocks_of(b, n);
-    let counts = counts_of(b, n, &clocks);
+    clocks_of(b, n, clocks);
+    let counts = counts_of(b, n, clocks);
     if 120 < counts.all {
-        return unnumbered(13, 0);
+        return refused(13, 0);
     }
     if out.len() < 4 * counts.all + 6 {
-        return unnumbered(15, 0);
+        return refused(15, 0);
     }
-    let numbers = numbers_of(b, n, &clocks, counts);
-    put_table(b, n, &clocks, &numbers, counts, out);
-    Renumbered {
+    numbers_of(b, n, clocks, counts, numbers);
+    put_table(b, n, clocks, numbers, counts, out);
+    Rewriting {
         verdict: Verdict { number: 0, node: 0 },
         count: counts.all,
-        clocks,
-        numbers,
     }
 }
 
@@ -68,8 +59,7 @@ pub fn rewrite_numbered(b: &[u8], out: &mut [u8]) -> Renumbered
 pub fn rewrite(b: &[u8], out: &mut [u8]) -> Rewriting
     ensures { λ r. ⌜ Rewrites (now (b .entry)) (now (out .entry)) r (now (out .exit)) ⌝ }
 {
-    let found = rewrite_numbered(b, out);
-    let verdict = found.verdict;
-    let count = found.count;
-    Rewriting { verdict, count }
+    let mut clocks = [UNCLOCKED; 121];
+    let mut numbers = [0; 121];
+    rewrite_numbered(b, out, &mut clocks, &mut numbers)
 }

@@ -24,12 +24,11 @@ use Rattle.table.specs.Check as Check
 use Rattle.table.specs.Check.{Checks}
 use Rattle.nodes.proofs.Built.{Built}
 use Rattle.table.proofs.Checking.{checks-none, not-of-table, sound}
-use Rattle.rewrite.specs.declared.Renumbered.{Renumbered}
 use Rattle.numbers.specs.Numbers.{newCount}
 use Rattle.writing.specs.Tables.{newTable}
 use Rattle.rewrite.specs.Rewrites.{OfClocks, tooMany, Rewrites}
 use Rattle.rewrite.specs.Rewrites as Rewrites
-use Rattle.rewrite.specs.Computed.{rewritingOf, Renumbers}
+use Rattle.rewrite.specs.Computed.{Renumbered, rewritingOf, renumbered, Renumbers}
 use Rattle.clocks.proofs.Timing.{clocks-unique}
 use Rattle.rewrite.proofs.Deciding.{few-new}
 use Rattle.rewrite.proofs.Theorems.{output-is}

@@ -9,11 +9,11 @@ use Rattle.refusal.specs.First.{Refusal, Answers}
 use Rattle.refusal.specs.Computed.{Case, at0}
 use Rattle.table.specs.Check as Check
 use Rattle.rewrite.specs.declared.Rewriting.{Rewriting}
-use Rattle.rewrite.specs.declared.Renumbered.{Renumbered}
 use Rattle.numbers.specs.Numbers.{newCount}
 use Rattle.numbers.specs.Computed.{Numbered}
 use Rattle.writing.specs.Tables.{newTable}
 use Rattle.rewrite.specs.Rewrites.{OfClocks, Rewrites}
+use Rattle.rewrite.specs.Computed.{Renumbered}
 use Rattle.cells.specs.Shares.{longest}
 use Rattle.settling.specs.Refusals.{wrongRoot, endsRefusals}
 

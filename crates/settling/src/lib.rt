@@ -4,11 +4,12 @@ use cells::SHARE;
 use nodes::sort_at;
 use refusal::Verdict;
 use refusal::wide;
-use rewrite::Renumbered;
+use rewrite::Rewriting;
 use rewrite::rewrite_numbered;
 ghost use mathlib.Core.Path.{_≡_};
-ghost use lib.ListN.{length};
+ghost use lib.ListN.{length, replicate};
 ghost use Rattle.refusal.specs.Computed.{firstCase};
+ghost use Rattle.rewrite.specs.Computed.{renumbered};
 ghost use Rattle.settling.specs.Computed.{ownCases, Settles};
 
 // The first that applies of 12, 13, 10, 14 and 11, where the root is of the wrong sort, there are too many new nodes, and `least` words are needed.
@@ -65,18 +66,20 @@ pub fn settle(
     start: usize,
     words: usize,
     new: &mut [u8],
-) -> Renumbered
-    requires { ⌜ length (now new) ≡ 486 ⌝ }
-    ensures { λ r. ⌜ Settles (now (b .entry)) wrong n start words (now (new .entry)) r (now (new .exit)) ⌝ }
+    clocks: &mut [u8],
+    numbers: &mut [u8],
+) -> Rewriting
+    requires { ⌜ (length (now new) ≡ 486) × (now clocks ≡ replicate 121 255) × (length (now numbers) ≡ 121) ⌝ }
+    ensures { λ r. ⌜ Settles (now (b .entry)) wrong n start words (now (new .entry)) (renumbered r (now (clocks .exit)) (now (numbers .exit))) (now (new .exit)) ⌝ }
 {
-    let mut found = rewrite_numbered(b, new);
-    let v = found.verdict;
+    let rewriting = rewrite_numbered(b, new, clocks, numbers);
+    let v = rewriting.verdict;
     let of_the_table = (v.number != 0) & (v.number != 13);
     if of_the_table {
-        return found;
+        return rewriting;
     }
     let root = wide(b[5]) - 1;
-    let count = found.count;
+    let count = rewriting.count;
     let verdict = own_refusal(
         sort_at(b, root) == wrong,
         v.number != 0,
@@ -85,6 +88,5 @@ pub fn settle(
         words,
         SHARE * count,
     );
-    found.verdict = verdict;
-    found
+    Rewriting { verdict, count }
 }

@@ -1,8 +1,9 @@
 -- `clocks::clocks_of` meets its contract: the nodes from p on have handed their clocks to their parts.
 -- Assumes nothing.
 use native.Mathlib.Omega.{arith}
-use mathlib.Core.Path.{_≡_}
+use mathlib.Core.Path.{_≡_, sym, ap, _∙_}
 use Prim.Native.Nat.{_≤_}
+use lib.ListN.{length, length-set}
 use Rattle.clocks.proofs.HandingDown.{built, Handed, handed-none, handed-again, handed-all}
 use Rattle.clocks.proofs.clocks_of.Statement.{statement}
 use Rattle.clocks.proofs.clocks_of.Tie as tie
@@ -22,13 +23,13 @@ module _ (r : tie.After-row-of Inv-loop μ-loop) where
   turn = bytes .before .before
 
   abbrev start : tie.Start Inv-loop μ-loop
-  start = turn .before .before
+  start = turn .before .before .before
 
 -- node p - 1 hands its clock down
 loop-again : tie.Need-loop-again Inv-loop μ-loop
 loop-again c =
     let d = c .before .before in
-    let r = d .before in
+    let r = d .before .before in
     let l = turn r .loop in
     let a = start r in (
       omega arith,
@@ -41,7 +42,7 @@ clocks-of-spec =
     (tie.spec
     Inv-loop
     μ-loop
-    (λ c. (omega arith, rw (c .before .pre .1) (handed-none _)))
+    (λ c. let p = c .before .before .pre in (omega arith, rw (p .1, p .2) (handed-none _)))
     (λ c. omega arith)
     (λ c κs. omega arith)
     (λ c κs. tt)
@@ -50,10 +51,13 @@ clocks-of-spec =
     (λ c κs. tt)
     (λ c. omega arith)
     (λ c κs. tt)
-    (λ c. omega arith)
+    (λ c. simp length-set (omega arith))
     (λ c. omega arith)
     loop-again
+    (λ c. c .before .loop .inv .1 .size ∙ sym (ap length (c .before .before .before .before .pre .2)))
     (λ c.
     let l = c .before .loop in
     let e : l .p ≡ 0 = omega arith in
-    handed-all _ (built (c .before .before .before .pre .0)) (l .clocks) (rw e at (l .inv .1))))
+    let h = rw e at (l .inv .1) in
+    let p = c .before .before .before .before .pre in
+    record { table = p .0; size = h .size; right = handed-all _ (built (p .0)) (l .clocks) h }))

@@ -1,6 +1,7 @@
 -- `numbers::numbers_of` meets its contract: the nodes below k have their numbers, and it is known where the block of k begins.
 -- Assumes nothing.
 use native.Mathlib.Omega.{arith}
+use mathlib.Core.Path.{sym, _∙_}
 use Prim.Native.Nat.{_+_, _-_, _≤_}
 use Rattle.clocks.specs.Computed.{clockBy}
 use Rattle.numbers.specs.Numbers.{newCount}
@@ -26,7 +27,7 @@ module _ (d : tie.After-length-under Inv-loop μ-loop) where
   turn = bytes .before .before
 
   abbrev start : tie.Start Inv-loop μ-loop
-  start = turn .before .before .before
+  start = turn .before .before .before .before
 
   node : Looked (start .args .b .now) (start .args .clocks .now) (turn .loop .k) (bytes .node-at .result) (row .row-of .result) (d .length-under .result)
   node = looked _ _ _ _ _ _ (start .pre .0 .0) (omega arith) (bytes .node-at .ensures) (row .row-of .ensures) (d .length-under .ensures)
@@ -45,17 +46,17 @@ module _ (s : tie.After-choose Inv-loop μ-loop) where
 -- when the node's new number is
 module _ (u : tie.After-stands Inv-loop μ-loop) where
   abbrev operand : tie.After-named Inv-loop μ-loop
-  operand = u .before .before
+  operand = u .before .before .before
 
   abbrev begin : tie.After-choose Inv-loop μ-loop
   begin = operand .before
 
 add-stands : tie.Need-add-stands Inv-loop μ-loop
-add-stands c = omega (arith, fits (c .before .before))
+add-stands c = omega (arith, fits (c .before .before .before))
 
 stands-requires : tie.Need-stands-requires Inv-loop μ-loop
 stands-requires c κs =
-    let s = c .before .before in
+    let s = c .before .before .before in
     let d = known s in
     (fits s, some _ _ _ _ _ _ (node d) (few d) _ _ _ (turn d .loop .inv .1) _ (s .choose .ensures))
 
@@ -83,7 +84,7 @@ numbers-of-spec =
     (tie.spec
     Inv-loop
     μ-loop
-    (λ c. let p = c .before .before .pre in (omega arith, begun-none _ _ _ (p .1 .0)))
+    (λ c. let p = c .before .before .before .pre in (omega arith, begun-none _ _ _ (p .1 .0) _ (p .1 .2)))
     (λ c κs. omega arith)
     (λ c κs. tt)
     (λ c. omega arith)
@@ -101,7 +102,8 @@ numbers-of-spec =
     (λ c. let n = node (known (begin (c .before .before))) in omega (arith, n .inside, n .timed .table))
     (λ c. omega arith)
     loop-again
+    (λ c. c .before .loop .inv .1 .size ∙ sym (c .before .before .before .before .before .pre .1 .2))
     (λ c.
     let l = c .before .loop in
-    let p = c .before .before .before .before .pre in
+    let p = c .before .before .before .before .before .pre in
     begun-all _ _ (p .0 .0) _ (p .0 .1) (l .k) (omega arith) (omega arith) _ _ _ (l .inv .1)))

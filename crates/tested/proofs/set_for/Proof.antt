@@ -1,5 +1,4 @@
 -- `tested::set_for` meets its contract: the word at the node that the byte names. Assumes nothing.
-use mathlib.Core.Path.{ap}
 use borrow.Author.Needs.{needs}
 use Rattle.tested.proofs.set_for.Statement.{statement}
 use Rattle.tested.proofs.set_for.Tie as tie
