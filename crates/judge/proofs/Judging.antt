@@ -37,7 +37,6 @@ use Rattle.table.specs.Check.{Checks}
 use Rattle.nodes.proofs.Built.{Built}
 use Rattle.table.proofs.Standing.{sequence-in, property-in}
 use Rattle.table.proofs.Checking.{sound, sorts}
-use Rattle.rewrite.specs.declared.Renumbered.{Renumbered}
 use Rattle.clocks.specs.Clocks.{Clocks}
 use Rattle.clocks.specs.Computed.{clockBy}
 use Rattle.clocks.proofs.Timing.{clocks-unique}
@@ -45,6 +44,7 @@ use Rattle.numbers.specs.Numbers.{newCount}
 use Rattle.writing.specs.Tables.{newTable}
 use Rattle.rewrite.specs.Rewrites.{tooMany}
 use Rattle.rewrite.specs.Keeps.{Keeps}
+use Rattle.rewrite.specs.Computed.{Renumbered}
 use Rattle.cells.specs.Shares.{share, longest, topWord, wordIn, bitIn, HasRow}
 use Rattle.rows.specs.Rows.{filled, Fits}
 use Rattle.readout.specs.Computed.{levelIn}
@@ -285,12 +285,6 @@ module _ (s : List ℕ) (wrong : ℕ) (xs : List ℕ) (start : ℕ) (d lent : Li
 
   pub tested-there : Testing s (r .clocks) (r .numbers) d′ (length xs)
   tested-there = sets-there s wrong (length xs) start (length d) lent r new (w .settles) z xs d refl refl d′ (w .rows z)
-
-  pub clocks-sized : 121 ≡ length (r .clocks)
-  clocks-sized = sym (w .settles .numbered z .timed .size)
-
-  pub numbers-sized : 121 ≡ length (r .numbers)
-  numbers-sized = sym (w .settles .numbered z .size)
 
   pub table-counted : 5 < length s
   table-counted = let l = built s wrong (length xs) start (length d) lent r new (w .settles) z .long in omega arith

@@ -3,7 +3,7 @@ use mathlib.Core.Path.{_≡_}
 use mathlib.Core.List.{List}
 use Prim.Native.Nat.{ℕ, _+_, _*_}
 use lib.ListN.{length, take}
-use Rattle.rewrite.specs.declared.Renumbered.{Renumbered}
+use Rattle.rewrite.specs.Computed.{Renumbered}
 use Rattle.rows.specs.Rows.{filled}
 use Rattle.settling.specs.Computed.{Settles}
 

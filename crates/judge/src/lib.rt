@@ -1,6 +1,7 @@
 // The judge and match ends: refusals first, all before the first write, and then the rows of the rewritten table and what is read off them.
 use cells::TOP_WORD;
 use cells::word_at;
+use clocks::UNCLOCKED;
 use meaning::Level;
 use nodes::operators::PROPERTY;
 use nodes::operators::SEQUENCE;
@@ -8,12 +9,13 @@ use positions::PositionSet;
 use readout::level_of;
 use refusal::Verdict;
 use refusal::wide;
-use rewrite::Renumbered;
+use rewrite::Rewriting;
 use rows::fill;
 use settling::settle;
 use tested::tested;
 ghost use mathlib.Core.Path.{_≡_};
-ghost use lib.ListN.{length};
+ghost use lib.ListN.{length, replicate};
+ghost use Rattle.rewrite.specs.Computed.{renumbered};
 ghost use Rattle.judge.specs.Judges.{Judges, EndsMatches};
 ghost use Rattle.judge.specs.Computed.{Lays};
 
@@ -33,8 +35,8 @@ pub struct MatchEnds {
     pub top: bool,
 }
 
-// Settles a call, where `wrong` is the sort that the root must not have; with no refusal, leaves the rows of the rewritten table in the workspace, and that
-// table in the first bytes of `new`.
+// Settles a call, where `wrong` is the sort that the root must not have; with no refusal, leaves the rows of the rewritten table in the workspace, that table
+// in the first bytes of `new`, and the clock and the new number of each node.
 fn lay(
     table: &[u8],
     wrong: u8,
@@ -42,11 +44,22 @@ fn lay(
     start: usize,
     ws: &mut [u64],
     new: &mut [u8],
-) -> Renumbered
-    requires { ⌜ length (now new) ≡ 486 ⌝ }
-    ensures { λ r. ⌜ Lays (now (table .entry)) wrong (now (samples .entry)) start (now (ws .entry)) (now (new .entry)) r (now (new .exit)) (now (ws .exit)) ⌝ }
+    clocks: &mut [u8],
+    numbers: &mut [u8],
+) -> Rewriting
+    requires { ⌜ (length (now new) ≡ 486) × (now clocks ≡ replicate 121 255) × (length (now numbers) ≡ 121) ⌝ }
+    ensures { λ r. ⌜ Lays (now (table .entry)) wrong (now (samples .entry)) start (now (ws .entry)) (now (new .entry)) (renumbered r (now (clocks .exit)) (now (numbers .exit))) (now (new .exit)) (now (ws .exit)) ⌝ }
 {
-    let settled = settle(table, wrong, samples.len(), start, ws.len(), new);
+    let settled = settle(
+        table,
+        wrong,
+        samples.len(),
+        start,
+        ws.len(),
+        new,
+        clocks,
+        numbers,
+    );
     let verdict = settled.verdict;
     if verdict.number != 0 {
         return settled;
@@ -57,12 +70,23 @@ fn lay(
     settled
 }
 
-// The level at which the property at the table's root holds on the samples, and whether it was tested; the rows are left in the workspace.
+// The level at which the property at the table's root holds on the samples, and whether they test it; the rows are left in the workspace.
 pub fn judge(table: &[u8], samples: &[u64], workspace: &mut [u64]) -> Judgement
     ensures { λ r. ⌜ Judges (now (table .entry)) (now (samples .entry)) (now (workspace .entry)) r (now (workspace .exit)) ⌝ }
 {
     let mut new = [0; 486];
-    let settled = lay(table, SEQUENCE, samples, 0, workspace, &mut new);
+    let mut clocks = [UNCLOCKED; 121];
+    let mut numbers = [0; 121];
+    let settled = lay(
+        table,
+        SEQUENCE,
+        samples,
+        0,
+        workspace,
+        &mut new,
+        &mut clocks,
+        &mut numbers,
+    );
     let verdict = settled.verdict;
     if verdict.number != 0 {
         return Judgement {
@@ -71,12 +95,9 @@ pub fn judge(table: &[u8], samples: &[u64], workspace: &mut [u64]) -> Judgement
             tested: false,
         };
     }
-    let root = settled.count - 1;
-    let clocks = settled.clocks;
-    let numbers = settled.numbers;
     Judgement {
         verdict,
-        level: level_of(workspace, root),
+        level: level_of(workspace, settled.count - 1),
         tested: tested(
             table,
             wide(table[5]),
@@ -93,7 +114,18 @@ pub fn match_ends(table: &[u8], samples: &[u64], start: usize, workspace: &mut [
     ensures { λ r. ⌜ EndsMatches (now (table .entry)) (now (samples .entry)) (now (workspace .entry)) start r (now (workspace .exit)) ⌝ }
 {
     let mut new = [0; 486];
-    let settled = lay(table, PROPERTY, samples, start, workspace, &mut new);
+    let mut clocks = [UNCLOCKED; 121];
+    let mut numbers = [0; 121];
+    let settled = lay(
+        table,
+        PROPERTY,
+        samples,
+        start,
+        workspace,
+        &mut new,
+        &mut clocks,
+        &mut numbers,
+    );
     let verdict = settled.verdict;
     if verdict.number != 0 {
         return MatchEnds {

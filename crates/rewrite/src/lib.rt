@@ -30,7 +30,12 @@ fn refused(number: u8, node: usize) -> Rewriting
 
 // Refusals 1 to 9, 13 and 15, the first that applies; with none, the rewritten table in the first bytes of `out`, and what it made of each node: its clock,
 // in bytes that are lent with none, and its new number.
-pub fn rewrite_numbered(b: &[u8], out: &mut [u8], clocks: &mut [u8], numbers: &mut [u8]) -> Rewriting
+pub fn rewrite_numbered(
+    b: &[u8],
+    out: &mut [u8],
+    clocks: &mut [u8],
+    numbers: &mut [u8],
+) -> Rewriting
     requires { ⌜ (now clocks ≡ replicate 121 255) × (length (now numbers) ≡ 121) ⌝ }
     ensures { λ r. ⌜ Renumbers (now (b .entry)) (now (out .entry)) (renumbered r (now (clocks .exit)) (now (numbers .exit))) (now (out .exit)) ⌝ }
 {

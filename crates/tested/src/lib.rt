@@ -199,14 +199,7 @@ fn node_set(rows: &[u64], n: usize, numbers: &[u8], sets: &[u64], clock: u8, v: 
 }
 
 // Whether the root of the m nodes is tested from position 0.
-pub fn tested<'a>(
-    b: &[u8],
-    m: usize,
-    clocks: &'a [u8],
-    numbers: &'a [u8],
-    rows: &[u64],
-    n: usize,
-) -> bool
+pub fn tested(b: &[u8], m: usize, clocks: &[u8], numbers: &[u8], rows: &[u64], n: usize) -> bool
     requires { ⌜ Testing (now b) (now clocks) (now numbers) (now rows) n × (m ≡ count (now b)) ⌝ }
     ensures { λ r. ⌜ r ≡ testedIn (now (b .entry)) (now (clocks .entry)) (now (numbers .entry)) (now (rows .entry)) n ⌝ }
 {
