@@ -60,6 +60,11 @@ pub fn phrase(assertion: &Assertion, index: usize, names: &Names) -> String {
     writer::phrase(assertion, index, names)
 }
 
+/// All of an assertion in one line; none where [`phrase`] cuts it.
+pub fn whole(assertion: &Assertion, names: &Names) -> Option<String> {
+    writer::whole(assertion, names)
+}
+
 /// The text without the byte order mark that some editors put before it.
 fn without_mark(text: &str) -> &str {
     text.strip_prefix('\u{feff}').unwrap_or(text)

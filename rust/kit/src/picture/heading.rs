@@ -16,7 +16,7 @@ fn words(scene: &Scene) -> Vec<&'static str> {
     let judgement = scene.verdict.judgement;
     let mut words = vec![judgement.level.meaning()];
     if !judgement.tested {
-        words.push("not tested: no |-> has its sequence matched inside the record");
+        words.push("not tested: no strong and no weak was reached");
     }
     words
 }
