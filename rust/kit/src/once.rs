@@ -88,20 +88,18 @@ fn below_clocks(assertion: &Assertion) -> usize {
     node
 }
 
-/// Finds the nodes that need `(..) until strong(0)` around them: what is asked once, below its clocks. An
-/// `and` is divided where a side needs it alone, or has a clock of its own.
+/// Finds the nodes that need `(..) until strong(0)` around them: what is asked once, below its clocks.
 fn collect(assertion: &Assertion, index: usize, found: &mut Vec<usize>) {
     if !asks_once(assertion, index) {
         return;
     }
     let node = assertion.node(index);
-    let [x, y] = [node.x, node.y].map(usize::from);
-    let alone = |side: usize| has_clock(assertion, side) || !asks_once(assertion, side);
     match node.operator {
-        Operator::ClockedProperty => collect(assertion, y, found),
-        Operator::PropertyAnd if alone(x) || alone(y) => {
-            collect(assertion, x, found);
-            collect(assertion, y, found);
+        Operator::ClockedProperty => collect(assertion, usize::from(node.y), found),
+        Operator::PropertyAnd if is_divided(assertion, index) => {
+            for side in node.operands() {
+                collect(assertion, side, found);
+            }
         }
         _ => found.push(index),
     }
@@ -121,13 +119,14 @@ fn asks_once(assertion: &Assertion, index: usize) -> bool {
     }
 }
 
-/// Whether a part is a clock's, or an `and` of which a side is.
-fn has_clock(assertion: &Assertion, index: usize) -> bool {
+/// Whether the sides of an `and` need an until each: one of them, or of the `and`s that it is made of, has
+/// a clock of its own or needs none.
+fn is_divided(assertion: &Assertion, index: usize) -> bool {
     let node = assertion.node(index);
     match node.operator {
         Operator::ClockedProperty => true,
-        Operator::PropertyAnd => node.operands().any(|operand| has_clock(assertion, operand)),
-        _ => false,
+        Operator::PropertyAnd => node.operands().any(|side| is_divided(assertion, side)),
+        _ => !asks_once(assertion, index),
     }
 }
 
@@ -142,3 +141,6 @@ fn instead(assertion: &Assertion, nodes: &[usize], names: &Names) -> Result<Stri
     let text = notation::whole(&always, names);
     text.ok_or("and the whole of it is too long to be written here".to_string())
 }
+
+#[cfg(test)]
+mod tests;

@@ -36,6 +36,8 @@ pub struct Scene {
     pub changes: Vec<Change>,
     /// The signals that are shown.
     pub signals: Vec<Trace>,
+    /// Whether every `|->` was asked.
+    pub asked: bool,
     /// The levels.
     pub verdict: Verdict,
 }
@@ -63,6 +65,7 @@ impl Scene {
         };
         Ok(Scene {
             decisive: part_words(&account),
+            asked: account.judged().asked,
             assertion: account.assertion,
             clocks: assertion
                 .clocks()

@@ -9,9 +9,38 @@ fn the_heading_says_the_programs_line_the_meaning_and_the_assertion() {
     assert_eq!(texts(&open, "line"), ["level 1 tested yes"]);
     assert_eq!(texts(&open, "meaning"), ["nothing broken, still waiting"]);
     assert_eq!(texts(&open, "assertion"), ["the assertion"]);
-    let untested = drawn(&flush(&[0, 4, 2]));
-    assert_eq!(texts(&untested, "line"), ["level 2 tested no"]);
-    assert_eq!(texts(&untested, "meaning").len(), 2);
+}
+
+#[test]
+fn the_heading_says_what_was_not_asked() {
+    let words = |scene: &Scene| {
+        let drawn = drawn(scene);
+        (
+            texts(&drawn, "line"),
+            texts(&drawn, "meaning")[1..].to_vec(),
+        )
+    };
+    // a |-> strong(b) on no a
+    let nodes = [
+        [1, 0, 0],
+        [1, 1, 0],
+        [16, 0, 0],
+        [16, 1, 0],
+        [32, 3, 0],
+        [37, 2, 4],
+    ];
+    let (line, more) = words(&scene(&table(&nodes), &["a", "b"], &[2]));
+    assert_eq!(line, ["level 3 tested no"]);
+    assert_eq!(more, ["not tested: no strong and no weak was reached"]);
+    // (a |-> strong(b)) and (b |-> strong(b)) on no a
+    let more = [[16, 1, 0], [16, 1, 0], [32, 7, 0], [37, 6, 8], [36, 5, 9]];
+    let both = [&nodes[..], &more].concat();
+    let (line, more) = words(&scene(&table(&both), &["a", "b"], &[2]));
+    assert_eq!(line, ["level 3 tested yes"]);
+    assert_eq!(more, ["tested, but not every |-> was asked"]);
+    // and on a with b all is asked
+    let (_, more) = words(&scene(&table(&both), &["a", "b"], &[3]));
+    assert!(more.is_empty());
 }
 
 #[test]
