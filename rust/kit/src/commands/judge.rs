@@ -82,7 +82,7 @@ The JSON object has every key always, null or empty where there is nothing to sa
                 its text and left that of its left side; reached are the samples from which it was
                 reached, where the number of samples is the end of the record; matched are those at
                 which its left side then matched, and asked is false where there are none
-  once          true where something is asked at the first sample only, whether or not --once is given
+  once          true where something is asked at the first sample only, with --once and without
   assertion     the assertion as text
   signals       the signals that it asks about: [{\"number\":0,\"name\":\"ack\"},..]
   samples       how many samples the record has

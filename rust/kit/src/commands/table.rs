@@ -59,9 +59,9 @@ and the assertion gives a boolean a name. docs/NOTATION.md has the whole grammar
 The table has version 1, or version 2 where rose or fell stands in it, and then the first line says
 so: benches that know version 1 alone refuse it with number 3.
 
-An assertion is asked at the first sample only, where SystemVerilog's `assert property` asks at every
-tick: `P until strong(0)` asks P at every sample, since no sample satisfies 0. Where something has no
-until above it, this is said, with what to write.
+An assertion is asked at the first sample only, where SystemVerilog's `assert property` asks at
+every tick: `P until strong(0)` asks P at every sample, since no sample satisfies 0. Where something
+has no until above it, that is said, with what to write to ask it at every sample.
 
   -o FILE.svt       where the table goes
   --once            what is asked at the first sample only is meant so, and no word is said of it
