@@ -26,10 +26,7 @@ impl Once {
     pub fn of(assertion: &Assertion, names: &Names) -> Option<Once> {
         let mut nodes = Vec::new();
         collect(assertion, assertion.root(), &mut nodes);
-        let text = |node: usize| {
-            let part = assertion.part(node);
-            notation::phrase(&part, part.root(), names)
-        };
+        let text = |node: usize| notation::part(assertion, node, names);
         let parts = match nodes.as_slice() {
             [] => return None,
             [whole] if *whole == below_clocks(assertion) => Vec::new(),

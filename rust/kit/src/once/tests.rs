@@ -153,7 +153,7 @@ fn what_would_be_too_large_is_not_suggested() {
     );
     // eleven letters under a clock, rewritten: 2 booleans, 99 nodes, 10 ##1 and strong are 112, and with
     // 0, its letter, strong and until 132
-    let letters = vec!["a"; 11].join(" ##1 ");
+    let letters = ["a"; 11].join(" ##1 ");
     let clocked = once(&format!("@(c) strong({letters})")).unwrap();
     assert_eq!(
         clocked.words(),

@@ -2,7 +2,7 @@
 use super::reached::Reaching;
 use crate::assertion::Assertion;
 use crate::names::Names;
-use crate::notation::phrase;
+use crate::notation;
 use xistomar::{Judge, Refusal};
 
 /// A `|->` of an assertion, on a record.
@@ -38,10 +38,7 @@ pub fn implications(
     let assertion = Assertion::of_table(table)?;
     let reaching = Reaching::of(&assertion);
     let reached = reaching.reached(&judge, samples.len());
-    let text = |node: usize| {
-        let part = assertion.part(node);
-        phrase(&part, part.root(), names)
-    };
+    let text = |node: usize| notation::part(&assertion, node, names);
     let listed = reaching.implications().iter();
     Ok(listed
         .map(|&(node, right)| Implication {

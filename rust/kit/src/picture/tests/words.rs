@@ -2,6 +2,7 @@
 use super::super::style::{DARK, GREY, PALE, TINT};
 use super::super::text::{cells, shorten, wrap};
 use super::*;
+use crate::notation;
 
 #[test]
 fn the_heading_says_the_programs_line_the_meaning_and_the_assertion() {
@@ -13,34 +14,24 @@ fn the_heading_says_the_programs_line_the_meaning_and_the_assertion() {
 
 #[test]
 fn the_heading_says_what_was_not_asked() {
-    let words = |scene: &Scene| {
-        let drawn = drawn(scene);
+    let heading = |assertion: &str, samples: &[u64]| {
+        let read = notation::read(&format!("signals a b\n{assertion}")).unwrap();
+        let drawn = drawn(&scene(&read.assertion.table(), &["a", "b"], samples));
         (
-            texts(&drawn, "line"),
-            texts(&drawn, "meaning")[1..].to_vec(),
+            texts(&drawn, "line").concat(),
+            texts(&drawn, "meaning")[1..].concat(),
         )
     };
-    // a |-> strong(b) on no a
-    let nodes = [
-        [1, 0, 0],
-        [1, 1, 0],
-        [16, 0, 0],
-        [16, 1, 0],
-        [32, 3, 0],
-        [37, 2, 4],
-    ];
-    let (line, more) = words(&scene(&table(&nodes), &["a", "b"], &[2]));
-    assert_eq!(line, ["level 3 tested no"]);
-    assert_eq!(more, ["not tested: no strong and no weak was reached"]);
-    // (a |-> strong(b)) and (b |-> strong(b)) on no a
-    let more = [[16, 1, 0], [16, 1, 0], [32, 7, 0], [37, 6, 8], [36, 5, 9]];
-    let both = [&nodes[..], &more].concat();
-    let (line, more) = words(&scene(&table(&both), &["a", "b"], &[2]));
-    assert_eq!(line, ["level 3 tested yes"]);
-    assert_eq!(more, ["tested, but not every |-> was asked"]);
-    // and on a with b all is asked
-    let (_, more) = words(&scene(&table(&both), &["a", "b"], &[3]));
-    assert!(more.is_empty());
+    let said = |line: &str, more: &str| (line.to_string(), more.to_string());
+    let untested = "not tested: no strong and no weak was reached";
+    assert_eq!(
+        heading("a |-> strong(b)", &[2]),
+        said("level 3 tested no", untested)
+    );
+    let both = "(a |-> strong(b)) and (b |-> strong(b))";
+    let unasked = "tested, but not every |-> was asked";
+    assert_eq!(heading(both, &[2]), said("level 3 tested yes", unasked));
+    assert_eq!(heading(both, &[3]), said("level 3 tested yes", ""));
 }
 
 #[test]

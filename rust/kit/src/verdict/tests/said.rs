@@ -6,7 +6,7 @@ use super::super::{samples, Refused};
 use super::table;
 use crate::assertion::Assertion;
 use crate::names::Names;
-use crate::notation::phrase;
+use crate::notation::{self, phrase};
 use crate::required::Required;
 use std::path::Path;
 
@@ -20,8 +20,11 @@ fn told(nodes: &[[u8; 3]], samples: &[u64]) -> Account {
 
 /// A node of a table in the notation, under its clock.
 fn part(nodes: &[[u8; 3]], index: usize) -> String {
-    let part = Assertion::of_table(&table(nodes)).unwrap().part(index);
-    phrase(&part, part.root(), &names())
+    notation::part(
+        &Assertion::of_table(&table(nodes)).unwrap(),
+        index,
+        &names(),
+    )
 }
 
 fn whole(nodes: &[[u8; 3]]) -> String {
@@ -48,9 +51,16 @@ fn the_parts_stand_in_the_notation() {
     assert_eq!(part(&ASKED, 6), "strong(strobe ##1 strobe)");
 }
 
-/// What is said where `--once` is given, without the requirements.
+/// What is said where `--once` is given and nothing is required.
 fn said(nodes: &[[u8; 3]], samples: &[u64]) -> String {
     words(&told(nodes, samples), Required::default(), true)
+}
+
+/// The same of an assertion as text.
+fn said_of(assertion: &str, samples: &[u64]) -> String {
+    let read = notation::read(&format!("signals ack strobe\n{assertion}")).unwrap();
+    let told = account(&read.assertion.table(), &read.names, samples).unwrap();
+    words(&told, Required::default(), true)
 }
 
 #[test]
@@ -106,98 +116,47 @@ fn an_untested_record_in_words() {
 
 #[test]
 fn an_untested_record_may_be_broken() {
-    // not (ack |-> strong(strobe ##1 strobe)): without ack the |-> holds and asks nothing
-    let nodes = [&ASKED[..], &[[34, 7, 0]]].concat();
-    let text = said(&nodes, &[0]);
+    // without ack the |-> holds and asks nothing
+    let text = said_of("not (ack |-> strong(strobe))", &[0]);
     assert!(text.starts_with("level 0 tested no\n"), "{text}");
     let untested =
         "\nNot tested: no strong and no weak of the assertion was reached.\nNever asked: ";
     assert!(text.contains(untested), "{text}");
 }
 
-/// (ack |-> weak(ack)) and (strobe |-> ack |-> weak(ack)): the |-> are nodes 5, 10 and 11
-const NESTED: [[u8; 3]; 13] = [
-    [1, 0, 0],
-    [1, 1, 0],
-    [16, 0, 0],
-    [16, 0, 0],
-    [33, 3, 0],
-    [37, 2, 4],
-    [16, 1, 0],
-    [16, 0, 0],
-    [16, 0, 0],
-    [33, 8, 0],
-    [37, 7, 9],
-    [37, 6, 10],
-    [36, 5, 11],
-];
-
 #[test]
 fn a_tested_record_says_what_was_never_asked() {
+    let nested = "(ack |-> weak(ack)) and (strobe |-> ack |-> weak(strobe))";
     // ack and no strobe: the inner |-> on the right is never reached
-    let text = said(&NESTED, &[1]);
+    let text = said_of(nested, &[1]);
     let expected = "\nTested, but not every |-> was asked.\n\
                     Asked: ack |-> weak(ack), reached from sample 0: its left side matched at sample 0.\n\
-                    Never asked: ack |-> weak(ack): it was never reached.\n\
-                    Never asked: strobe |-> ack |-> weak(ack), reached from sample 0: its left side never \
+                    Never asked: ack |-> weak(strobe): it was never reached.\n\
+                    Never asked: strobe |-> ack |-> weak(strobe), reached from sample 0: its left side never \
                     matched from there.\n\n  sample";
     assert!(text.contains(expected), "{text}");
     // both, and every |-> is asked
-    let text = said(&NESTED, &[3]);
-    assert!(
-        text.contains("\nTested: the record put the assertion to the test.\nAsked: "),
-        "{text}"
-    );
+    let text = said_of(nested, &[3]);
+    let tested = "\nTested: the record put the assertion to the test.\nAsked: ";
+    assert!(text.contains(tested), "{text}");
     assert!(!text.contains("Never asked"), "{text}");
 }
 
 #[test]
 fn samples_are_named_in_ranges_and_the_end_by_its_name() {
-    // (ack |-> weak(ack)) until strong(0)
-    let nodes = [
-        [1, 0, 0],
-        [0, 0, 0],
-        [16, 0, 0],
-        [16, 0, 0],
-        [33, 3, 0],
-        [37, 2, 4],
-        [16, 1, 0],
-        [32, 6, 0],
-        [39, 5, 7],
-    ];
-    let text = said(&nodes, &[1, 0, 1, 1, 0]);
+    let text = said_of("(ack |-> weak(ack)) until strong(0)", &[1, 0, 1, 1, 0]);
     let expected =
         "\nAsked: ack |-> weak(ack), reached from samples 0 to 4: its left side matched at \
                     samples 0 and 2 to 3.\n";
     assert!(text.contains(expected), "{text}");
-    // nexttime (ack |-> weak(ack)) on one sample: only the end is left
-    let nodes = [
-        [1, 0, 0],
-        [16, 0, 0],
-        [16, 0, 0],
-        [33, 2, 0],
-        [37, 1, 3],
-        [38, 4, 0],
-    ];
-    let text = said(&nodes, &[1]);
+    // on one sample only the end is left
+    let text = said_of("nexttime (ack |-> weak(ack))", &[1]);
     let expected =
         "\nNever asked: ack |-> weak(ack), reached from the end of the record: its left side \
                     never matched from there.\n";
     assert!(text.contains(expected), "{text}");
-    // 1[*1:$] |-> nexttime (ack |-> weak(ack)): from the sample after each
-    let nodes = [
-        [0, 1, 0],
-        [1, 0, 0],
-        [16, 0, 0],
-        [21, 2, 0],
-        [16, 1, 0],
-        [16, 1, 0],
-        [33, 5, 0],
-        [37, 4, 6],
-        [38, 7, 0],
-        [37, 3, 8],
-    ];
-    let text = said(&nodes, &[0, 0]);
+    // from the sample after each
+    let text = said_of("1[*1:$] |-> nexttime (ack |-> weak(ack))", &[0, 0]);
     let expected =
         "\nNever asked: ack |-> weak(ack), reached from sample 1 and the end of the record: ";
     assert!(text.contains(expected), "{text}");
