@@ -8,7 +8,6 @@ use crate::names::Names;
 use crate::notation;
 use crate::options::Options;
 use crate::refusals;
-use crate::words;
 
 /// What is asked at the first sample only, and how to ask it at every one.
 #[derive(Clone, Debug, PartialEq, Eq)]
@@ -50,18 +49,19 @@ impl Once {
     /// What to tell people, in lines.
     pub fn words(&self) -> String {
         let what = match self.parts.as_slice() {
-            [] => String::new(),
-            parts => format!(": {}", words::list(parts)),
+            [] => "the whole assertion".to_string(),
+            parts => parts.join("; "),
         };
-        let (every, each) = (self.every, if self.parts.len() > 1 { "each" } else { "it" });
+        let once = format!("Asked once: {what}, at the first sample only.");
+        let every = self.every;
         match &self.instead {
             Ok(text) => format!(
-                "Asked at the first sample only{what}. To ask at every {every}, write\n  {text}\n\
+                "{once} To ask at every {every}, write\n  {text}\n\
                  or say with --once that once is meant.\n"
             ),
             Err(why) => format!(
-                "Asked at the first sample only{what}. (..) until strong(0) around {each} asks at every {every}, \
-                 {why}.\nSay with --once that once is meant.\n"
+                "{once} (..) until strong(0) around it asks at every {every}, {why}.\n\
+                 Say with --once that once is meant.\n"
             ),
         }
     }

@@ -126,13 +126,13 @@ fn the_words_say_what_to_write() {
     let words = |assertion: &str| once(assertion).unwrap().words();
     assert_eq!(
         words("@(c) strong(a)"),
-        "Asked at the first sample only. To ask at every tick, write\n\
+        "Asked once: the whole assertion, at the first sample only. To ask at every tick, write\n\
          \x20 @(c) (strong(a) until strong(0))\n\
          or say with --once that once is meant.\n"
     );
     assert_eq!(
         words("strong(a) and (weak(b) until strong(0))"),
-        "Asked at the first sample only: strong(a). To ask at every sample, write\n\
+        "Asked once: strong(a), at the first sample only. To ask at every sample, write\n\
          \x20 (strong(a) until strong(0)) and (weak(b) until strong(0))\n\
          or say with --once that once is meant.\n"
     );
@@ -147,8 +147,8 @@ fn what_would_be_too_large_is_not_suggested() {
     let large = once(&both(30)).unwrap();
     assert_eq!(
         large.words(),
-        "Asked at the first sample only. (..) until strong(0) around it asks at every sample, but then \
-         it has more than 120 nodes, and 120 is the most.\n\
+        "Asked once: the whole assertion, at the first sample only. (..) until strong(0) around it asks at \
+         every sample, but then it has more than 120 nodes, and 120 is the most.\n\
          Say with --once that once is meant.\n"
     );
     // eleven letters under a clock, rewritten: 2 booleans, 99 nodes, 10 ##1 and strong are 112, and with
@@ -157,9 +157,9 @@ fn what_would_be_too_large_is_not_suggested() {
     let clocked = once(&format!("@(c) strong({letters})")).unwrap();
     assert_eq!(
         clocked.words(),
-        "Asked at the first sample only. (..) until strong(0) around it asks at every tick, but then the \
-         judge refuses it with 13, rewritten count over 120: under a clock each letter counts 9 nodes, \
-         each nexttime 14 and each until 9.\n\
+        "Asked once: the whole assertion, at the first sample only. (..) until strong(0) around it asks at \
+         every tick, but then the judge refuses it with 13, rewritten count over 120: under a clock each \
+         letter counts 9 nodes, each nexttime 14 and each until 9.\n\
          Say with --once that once is meant.\n"
     );
 }

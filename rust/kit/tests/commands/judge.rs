@@ -114,7 +114,7 @@ fn what_is_asked_once_is_said() {
     assert_eq!((said.status, said.line()), (0, "level 3 tested no"));
     let always = format!("({assertion}) until strong(0)");
     let note = format!(
-        "\nAsked at the first sample only. To ask at every sample, write\n  {always}\n\
+        "\nAsked once: the whole assertion, at the first sample only. To ask at every sample, write\n  {always}\n\
          or say with --once that once is meant.\n"
     );
     assert!(said.out.contains(&note), "{}", said.out);

@@ -95,7 +95,7 @@ fn what_is_asked_once_is_said() {
     assert_eq!((said.status, said.err.as_str()), (0, ""));
     let read =
         format!("{table}: 8 nodes, 3 signals, a property\nread as: @(c) (a |-> strong(b))\n");
-    let note = "Asked at the first sample only. To ask at every tick, write\n\
+    let note = "Asked once: the whole assertion, at the first sample only. To ask at every tick, write\n\
                 \x20 @(c) ((a |-> strong(b)) until strong(0))\nor say with --once that once is meant.\n";
     assert_eq!(said.out, format!("{read}{note}"));
     let written = fs::read(&table).unwrap();

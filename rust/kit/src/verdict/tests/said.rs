@@ -78,7 +78,7 @@ fn a_waiting_record_in_words() {
          If nothing more came, the assertion would not have held.\n\
          Tested: the record put the assertion to the test.\n\
          Asked: {0}, reached from sample 0: its left side matched at sample 0.\n\
-         Asked at the first sample only. To ask at every sample, write\n  ({0}) until strong(0)\n\
+         Asked once: the whole assertion, at the first sample only. To ask at every sample, write\n  ({0}) until strong(0)\n\
          or say with --once that once is meant.\n\
          \n  sample  start   0\n  level       2   1\n\
          \n\
