@@ -46,7 +46,6 @@ type Parts<'a, 'b> = Zip<Chunks<'a, Place>, ChunksMut<'b, Answer>>;
 
 /// What the threads share.
 struct Shared<'a, 'b> {
-    table: &'a [u8],
     reaching: &'a Reaching,
     parts: Mutex<Parts<'a, 'b>>,
     done: AtomicUsize,
@@ -56,7 +55,6 @@ struct Shared<'a, 'b> {
 /// Judges the record at each place by a table that is not refused, with as many threads as run at
 /// once here. While they work, `watch` is told every tenth of a second how many are done.
 pub fn judge_all<'a>(
-    table: &'a [u8],
     reaching: &'a Reaching,
     places: &'a [Place],
     watch: &mut dyn FnMut(usize),
@@ -64,7 +62,6 @@ pub fn judge_all<'a>(
     let mut answers = Vec::new();
     answers.resize_with(places.len(), || Answer::Unreadable(String::new()));
     let shared = Shared {
-        table,
         reaching,
         parts: Mutex::new(places.chunks(PART).zip(answers.chunks_mut(PART))),
         done: AtomicUsize::new(0),
@@ -163,9 +160,6 @@ impl<'s, 'a, 'b> Worker<'s, 'a, 'b> {
     fn judge(&mut self) -> Result<Judged, Refusal> {
         let count = xistomar::read(&self.bytes, &mut self.samples)?;
         let samples = self.samples.get(..count).unwrap_or_default();
-        Ok(Judged {
-            judgement: self.judge.judge(self.shared.table, samples)?,
-            asked: self.shared.reaching.every_asked(&self.judge, count),
-        })
+        self.shared.reaching.judged(&mut self.judge, samples)
     }
 }

@@ -1,6 +1,5 @@
 //! `kit batch`: the verdict on many records.
 use super::Command;
-use crate::assertion::Assertion;
 use crate::batch::{self, Answer, Progress, Report, Run};
 use crate::console::Console;
 use crate::failure::{Failure, Outcome, BELOW, DONE, REFUSED};
@@ -13,7 +12,7 @@ use crate::source;
 use crate::verdict::Reaching;
 use std::path::{Path, PathBuf};
 use std::time::Instant;
-use xistomar::Judge;
+use xistomar::{Judge, Refusal};
 
 /// The command.
 pub const COMMAND: Command = Command {
@@ -31,17 +30,15 @@ fn run(options: &Options, console: &mut Console) -> Outcome {
     let required = Required::of(options)?;
     let (path, given) = given(options)?;
     let source = source::table(path, None)?;
-    let judged = Judge::new().judge(&source.table, &[]);
-    let assertion = judged.and_then(|_| Assertion::of_table(&source.table));
-    let assertion = assertion.map_err(|refusal| refusals::failure(path, refusal))?;
+    let reaching = accepted(&source.table);
+    let reaching = reaching.map_err(|refusal| refusals::failure(path, refusal))?;
     let found = batch::find(given);
     if found.places.is_empty() {
         return Err(no_record(given, found.others));
     }
     let mut progress = Progress::begin(console, found.places.len());
-    let reaching = Reaching::of(&assertion);
     let mut watch = |done| progress.draw(done);
-    let run = batch::judge_all(&source.table, &reaching, &found.places, &mut watch);
+    let run = batch::judge_all(&reaching, &found.places, &mut watch);
     progress.erase();
     let whole = begun.elapsed();
     if options.flag("--list") {
@@ -55,7 +52,7 @@ fn run(options: &Options, console: &mut Console) -> Outcome {
         whole,
     };
     console.say(&report.table())?;
-    let note = once::note(&assertion, &source.names, options);
+    let note = once::note(reaching.assertion(), &source.names, options);
     if !note.is_empty() {
         console.say(&format!("\n{note}"))?;
     }
@@ -65,6 +62,13 @@ fn run(options: &Options, console: &mut Console) -> Outcome {
         console.say_all(names)?;
     }
     status(&run, required)
+}
+
+/// The table, unless the judge refuses it on no samples, 12 and 13 included.
+fn accepted(table: &[u8]) -> Result<Reaching, Refusal> {
+    let reaching = Reaching::of(table)?;
+    reaching.judged(&mut Judge::new(), &[])?;
+    Ok(reaching)
 }
 
 /// The table, and the folders and records.

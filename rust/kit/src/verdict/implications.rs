@@ -1,6 +1,5 @@
 //! The `|->` of an assertion: where a record reached each, and where its left side then matched.
 use super::reached::Reaching;
-use crate::assertion::Assertion;
 use crate::names::Names;
 use crate::notation;
 use xistomar::{Judge, Refusal};
@@ -33,12 +32,10 @@ pub fn implications(
     names: &Names,
     samples: &[u64],
 ) -> Result<Vec<Implication>, Refusal> {
-    let mut judge = Judge::new();
-    judge.judge(table, samples)?;
-    let assertion = Assertion::of_table(table)?;
-    let reaching = Reaching::of(&assertion);
-    let reached = reaching.reached(&judge, samples.len());
-    let text = |node: usize| notation::part(&assertion, node, names);
+    let reaching = Reaching::of(table)?;
+    let reached = reaching.reached(&mut Judge::new(), samples)?;
+    let assertion = reaching.assertion();
+    let text = |node: usize| notation::part(assertion, node, names);
     let listed = reaching.implications().iter();
     Ok(listed
         .map(|&(node, right)| Implication {

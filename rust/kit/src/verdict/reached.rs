@@ -17,12 +17,15 @@
 //!
 //! Ticks, matches and whether a part holds are read off the rows that judging the whole assertion leaves,
 //! so that a record is judged once.
+use super::Judged;
 use crate::assertion::{Assertion, Operator, MOST_NODES};
-use xistomar::{Judge, SHARE};
+use xistomar::{Judge, Refusal, SHARE};
 
-/// An assertion with what is needed to tell where records reach its parts, made once for all of them.
+/// A table with what is needed to tell where records reach the parts of its assertion, made once for all
+/// of them.
 #[derive(Clone, Debug)]
 pub struct Reaching {
+    table: Vec<u8>,
     assertion: Assertion,
     /// For each node the number of its row.
     rows: Vec<usize>,
@@ -33,51 +36,65 @@ pub struct Reaching {
 }
 
 impl Reaching {
-    /// Prepares an assertion.
-    pub fn of(assertion: &Assertion) -> Reaching {
+    /// Prepares a table that the proved check accepts, or answers its refusal.
+    pub fn of(table: &[u8]) -> Result<Reaching, Refusal> {
+        let assertion = Assertion::of_table(table)?;
         let nodes = assertion.nodes().iter().enumerate();
         let implications = nodes.filter(|(_, node)| node.operator == Operator::Implies);
-        Reaching {
+        let implications = implications.map(|(index, node)| (index, usize::from(node.y)));
+        let clocks = (0..=assertion.root()).map(|node| assertion.clock(node));
+        Ok(Reaching {
+            table: table.to_vec(),
             rows: assertion.rewritten(),
-            clocks: (0..=assertion.root())
-                .map(|node| assertion.clock(node))
-                .collect(),
-            implications: implications
-                .map(|(index, node)| (index, usize::from(node.y)))
-                .collect(),
-            assertion: assertion.clone(),
-        }
+            clocks: clocks.collect(),
+            implications: implications.collect(),
+            assertion,
+        })
     }
 
-    /// Where the record that the judge judged last, by the whole assertion, reaches its parts.
-    pub fn reached(&self, judge: &Judge, samples: usize) -> Reached {
-        let mut walk = Walk {
-            reaching: self,
-            workspace: judge.workspace(),
-            samples,
-            reached: [0; MOST_NODES],
-        };
-        walk.reach(self.assertion.root(), 1);
-        // an operand stands below its node, so that nothing is reached after it passed on
-        for index in (0..=self.assertion.root()).rev() {
-            walk.pass_on(index);
-        }
-        Reached(walk.reached)
-    }
-
-    /// Whether that record asks every `|->`: its left side matches from where it is reached.
-    pub fn every_asked(&self, judge: &Judge, samples: usize) -> bool {
-        if self.implications.is_empty() {
-            return true;
-        }
-        let reached = self.reached(judge, samples);
-        let mut right_sides = self.implications.iter().map(|(_, right)| *right);
-        right_sides.all(|right| reached.set(right) != 0)
+    /// The assertion.
+    pub fn assertion(&self) -> &Assertion {
+        &self.assertion
     }
 
     /// Each `|->`, with its right side, in the order of the table.
     pub fn implications(&self) -> &[(usize, usize)] {
         &self.implications
+    }
+
+    /// Judges a record, and answers where it reaches the parts.
+    pub fn reached(&self, judge: &mut Judge, samples: &[u64]) -> Result<Reached, Refusal> {
+        judge.judge(&self.table, samples)?;
+        Ok(self.read_off(judge.workspace(), samples.len()))
+    }
+
+    /// Judges a record, and answers whether it asked every `|->`: whether its left side matched from where
+    /// it was reached, and so the right side was reached.
+    pub fn judged(&self, judge: &mut Judge, samples: &[u64]) -> Result<Judged, Refusal> {
+        let judgement = judge.judge(&self.table, samples)?;
+        let mut asked = true;
+        if !self.implications.is_empty() {
+            let reached = self.read_off(judge.workspace(), samples.len());
+            let mut right_sides = self.implications.iter().map(|(_, right)| *right);
+            asked = right_sides.all(|right| reached.set(right) != 0);
+        }
+        Ok(Judged { judgement, asked })
+    }
+
+    /// Where parts are reached, by the rows that the judge left.
+    fn read_off(&self, workspace: &[u64], samples: usize) -> Reached {
+        let mut walk = Walk {
+            reaching: self,
+            workspace,
+            samples,
+            reached: [0; MOST_NODES],
+        };
+        walk.reach(self.assertion.root(), 1);
+        // an operand stands below its node, so nothing is reached any more once it passes on
+        for index in (0..=self.assertion.root()).rev() {
+            walk.pass_on(index);
+        }
+        Reached(walk.reached)
     }
 }
 

@@ -9,9 +9,8 @@ use xistomar::{Judge, Level};
 
 /// Where a record reaches the parts of an assertion, by the kit.
 fn reached(assertion: &Assertion, samples: &[u64]) -> Reached {
-    let mut judge = Judge::new();
-    judge.judge(&assertion.table(), samples).unwrap();
-    Reaching::of(assertion).reached(&judge, samples.len())
+    let reaching = Reaching::of(&assertion.table()).unwrap();
+    reaching.reached(&mut Judge::new(), samples).unwrap()
 }
 
 /// The same by the rules: each node with each position at which it is reached, once.
@@ -115,7 +114,7 @@ fn parts_are_reached_as_the_rules_say() {
 #[test]
 fn every_implication_is_asked_where_each_right_side_is_reached() {
     let mut seen = [0; 2];
-    for (assertion, samples, _) in accepted(0..8_000) {
+    for (assertion, samples, verdict) in accepted(0..8_000) {
         let rules = by_rules(&assertion, &samples);
         let implications = properties(&assertion).filter(|(_, it)| *it == Operator::Implies);
         let asked = implications.map(|(node, _)| {
@@ -123,10 +122,11 @@ fn every_implication_is_asked_where_each_right_side_is_reached() {
             rules.iter().any(|(reached, _)| *reached == right)
         });
         let asked: Vec<bool> = asked.collect();
-        let mut judge = Judge::new();
-        judge.judge(&assertion.table(), &samples).unwrap();
-        let every = Reaching::of(&assertion).every_asked(&judge, samples.len());
-        assert_eq!(every, !asked.contains(&false), "{assertion:?} {samples:?}");
+        let reaching = Reaching::of(&assertion.table()).unwrap();
+        let judged = reaching.judged(&mut Judge::new(), &samples).unwrap();
+        assert_eq!(judged.judgement, verdict.judgement);
+        let every = !asked.contains(&false);
+        assert_eq!(judged.asked, every, "{assertion:?} {samples:?}");
         seen[usize::from(every)] += usize::from(!asked.is_empty());
     }
     assert!(seen.iter().all(|count| *count > 300), "{seen:?}");
