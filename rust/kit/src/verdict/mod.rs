@@ -15,6 +15,8 @@ mod tests;
 mod words;
 
 pub use account::{account, Account};
+pub use implication_words::implication_words;
+pub use implications::Implication;
 pub use object::{object, refusal_object};
 pub use part_words::part_words;
 pub use reached::Reaching;

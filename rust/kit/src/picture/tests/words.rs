@@ -51,7 +51,9 @@ fn who_hears_the_picture_hears_the_verdict() {
         said("kit-title"),
         "level 0 tested yes: broken, whatever comes next"
     );
-    let description = "Assertion: the assertion. Samples: 5. Level at the start and after each \
+    let description = "Assertion: the assertion. Tested: the record put the assertion to the test. \
+                       Asked: ack |-> strong((!drop)[*1:$] ##0 strobe), reached from samples 0 to 1: its \
+                       left side matched at sample 1. Samples: 5. Level at the start and after each \
                        sample: 2 2 1 1 0 0; closed at sample 3.";
     assert_eq!(said("kit-words"), description);
 }
@@ -67,6 +69,8 @@ fn the_legend_has_the_levels_and_the_marks() {
         "broken, whatever comes next",
         "clock tick",
         "level closed",
+        "|-> asked: its left side matched",
+        "|-> only reached",
     ];
     assert_eq!(texts(&drawn, "legend"), words);
 }
