@@ -2,7 +2,7 @@
 //! where it was only reached.
 use super::axis::draw_name;
 use super::layout::{baseline, whole, Layout, ASKED_MARK, IMPLICATION_ROW};
-use super::scene::{Row, Scene};
+use super::scene::{ImplicationRow, Scene};
 use super::style::{DARK, GREY};
 use super::svg::Svg;
 
@@ -23,7 +23,7 @@ pub fn draw(svg: &mut Svg, scene: &Scene, layout: &Layout) {
 }
 
 /// Draws the marks of a row; one at the end of the record stands in the tail.
-fn draw_marks(svg: &mut Svg, row: &Row, layout: &Layout, y: i32) {
+fn draw_marks(svg: &mut Svg, row: &ImplicationRow, layout: &Layout, y: i32) {
     let across = &layout.across;
     for sample in &row.reached {
         draw_reached(svg, across.middle(*sample), y);

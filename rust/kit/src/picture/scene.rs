@@ -25,7 +25,7 @@ pub struct Change {
 
 /// A row for a `|->`.
 #[derive(Clone, Debug, PartialEq, Eq)]
-pub struct Row {
+pub struct ImplicationRow {
     /// Its left side and the sign.
     pub name: String,
     /// The samples at which its left side matched from where it was reached, so that it was asked.
@@ -54,7 +54,7 @@ pub struct Scene {
     /// Whether every `|->` was asked.
     pub asked: bool,
     /// The `|->`.
-    pub implications: Vec<Row>,
+    pub implications: Vec<ImplicationRow>,
     /// The levels.
     pub verdict: Verdict,
 }
@@ -80,15 +80,13 @@ impl Scene {
             name: names.name(number),
             values: samples.iter().map(|sample| high(*sample, number)).collect(),
         };
+        let implications = account.implications.iter();
+        let implications = implications.map(|implication| row(implication, samples.len()));
         Ok(Scene {
             decisive: part_words(&account),
             tested: implication_words(&account),
             asked: account.judged().asked,
-            implications: account
-                .implications
-                .iter()
-                .map(|implication| row(implication, samples.len()))
-                .collect(),
+            implications: implications.collect(),
             assertion: account.assertion,
             clocks: assertion
                 .clocks()
@@ -103,11 +101,11 @@ impl Scene {
 }
 
 /// The row of a `|->` on so many samples.
-fn row(implication: &Implication, samples: usize) -> Row {
+fn row(implication: &Implication, samples: usize) -> ImplicationRow {
     let Implication { left, matched, .. } = implication;
     let reached = implication.reached.iter().copied();
     let only = |at: &usize| *at < samples && !matched.contains(at);
-    Row {
+    ImplicationRow {
         name: format!("{left} |->"),
         matched: matched.clone(),
         reached: reached.filter(only).collect(),

@@ -73,7 +73,7 @@ pub fn satisfied(
     Ok((0..samples.len()).map(holds).collect())
 }
 
-/// What is asked of a record that was judged, but for the level after each sample.
+/// What is known of a record that was judged when it is held against what the caller requires.
 #[derive(Clone, Copy, Debug, PartialEq, Eq)]
 pub struct Judged {
     /// The judge's answer.

@@ -73,7 +73,7 @@ fn a_folder_is_searched_in_order() {
 }
 
 #[test]
-fn the_report_counts_and_names() {
+fn the_report_counts() {
     let run = mixed();
     let gone = run.join("gone.svw");
     let ran = batch(&[run.as_os_str(), gone.as_os_str()]);
@@ -95,6 +95,13 @@ fn the_report_counts_and_names() {
     for (label, wanted) in counts {
         assert_eq!(count(&ran, label), wanted, "{label} in {}", ran.out);
     }
+}
+
+#[test]
+fn the_report_explains_and_names() {
+    let run = mixed();
+    let gone = run.join("gone.svw");
+    let ran = batch(&[run.as_os_str(), gone.as_os_str()]);
     for words in [
         "held as the record stands; what comes next may break it\n",
         "  fewer than 6 bytes\n",

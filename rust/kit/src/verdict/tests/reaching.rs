@@ -50,15 +50,20 @@ impl Rules<'_> {
                 }
             }
             Operator::Until => {
-                for sample in self.asked.positions(index, at).unwrap() {
-                    self.reach(x, sample);
-                    self.reach(y, sample);
-                    if !self.holds(x, sample) || self.holds(y, sample) {
-                        break;
-                    }
-                }
+                let samples = self.asked.positions(index, at).unwrap();
+                self.until((x, y), samples);
             }
             _ => {}
+        }
+    }
+
+    fn until(&mut self, (p, q): (usize, usize), samples: Vec<usize>) {
+        for sample in samples {
+            self.reach(p, sample);
+            self.reach(q, sample);
+            if !self.holds(p, sample) || self.holds(q, sample) {
+                break;
+            }
         }
     }
 
