@@ -26,6 +26,7 @@ mod failure;
 mod files;
 mod names;
 mod notation;
+mod once;
 mod options;
 mod picture;
 mod refusals;

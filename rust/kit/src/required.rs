@@ -1,7 +1,8 @@
-//! What `--require` and `--tested` ask of a record.
+//! What `--require`, `--tested` and `--asked` ask of a record.
 use crate::failure::Failure;
 use crate::options::Options;
-use xistomar::Judgement;
+use crate::verdict::Judged;
+use crate::words;
 
 /// What the caller requires of a record.
 #[derive(Clone, Copy, Debug, Default, PartialEq, Eq)]
@@ -10,6 +11,8 @@ pub struct Required {
     pub level: Option<u8>,
     /// Whether the record must test the assertion.
     pub tested: bool,
+    /// Whether the record must ask every `|->`.
+    pub asked: bool,
 }
 
 impl Required {
@@ -26,28 +29,46 @@ impl Required {
                 return Err(Failure::Usage(words));
             }
         };
-        let tested = options.flag("--tested");
-        Ok(Required { level, tested })
+        Ok(Required {
+            level,
+            tested: options.flag("--tested"),
+            asked: options.flag("--asked"),
+        })
     }
 
     /// Whether anything is asked.
     pub fn asks(self) -> bool {
-        self.level.is_some() || self.tested
+        self != Required::default()
     }
 
-    /// Whether the level is reached, as far as one is required.
-    pub fn level_reached(self, judgement: Judgement) -> bool {
-        let reached = |level| judgement.level.number() >= level;
-        self.level.is_none_or(reached)
-    }
-
-    /// Whether the record tests the assertion, if it must.
-    pub fn test_reached(self, judgement: Judgement) -> bool {
-        judgement.tested || !self.tested
+    /// Each thing that is required, in short, and whether a record reaches it.
+    pub fn each(self, record: Judged) -> Vec<(String, bool)> {
+        let level = self.level.map(|level| level.to_string());
+        let level = level.map(|level| (level, self.level_reached(record)));
+        let tested = ("tested".to_string(), record.judgement.tested);
+        let asked = ("asked".to_string(), record.asked);
+        let (tested, asked) = (self.tested.then_some(tested), self.asked.then_some(asked));
+        [level, tested, asked].into_iter().flatten().collect()
     }
 
     /// Whether all that is required is reached.
-    pub fn reached(self, judgement: Judgement) -> bool {
-        self.level_reached(judgement) && self.test_reached(judgement)
+    pub fn reached(self, record: Judged) -> bool {
+        self.level_reached(record)
+            && (record.judgement.tested || !self.tested)
+            && (record.asked || !self.asked)
+    }
+
+    fn level_reached(self, record: Judged) -> bool {
+        let reached = |level| record.judgement.level.number() >= level;
+        self.level.is_none_or(reached)
+    }
+
+    /// All that is required, in words.
+    pub fn words(self) -> String {
+        let level = self.level.map(|level| format!("level {level} or more"));
+        let tested = self.tested.then(|| "tested".to_string());
+        let asked = self.asked.then(|| "every |-> asked".to_string());
+        let all: Vec<String> = [level, tested, asked].into_iter().flatten().collect();
+        words::list(&all)
     }
 }

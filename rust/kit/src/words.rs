@@ -22,6 +22,17 @@ pub fn list(words: &[String]) -> String {
     }
 }
 
+/// Numbers in ascending order, those in a row together: `3`, `0 to 2`, `0 to 2, 5 and 7`.
+pub fn ranges(numbers: &[usize]) -> String {
+    let in_a_row = |before: &usize, after: &usize| before + 1 == *after;
+    let range = |numbers: &[usize]| match numbers {
+        [first, .., last] => format!("{first} to {last}"),
+        _ => numbers.iter().map(usize::to_string).collect(),
+    };
+    let ranges: Vec<String> = numbers.chunk_by(in_a_row).map(range).collect();
+    list(&ranges)
+}
+
 /// A line for each of the numbered things, aligned: `sample 5   55 ns`, `sample 10  105 ns`. They
 /// stand in the order of their numbers.
 pub fn numbered(thing: &str, lines: &[(usize, String)]) -> String {
@@ -71,6 +82,13 @@ mod tests {
         assert_eq!([list(&[]), list(&["a"])], ["", "a"]);
         assert_eq!(list(&["a", "b"]), "a and b");
         assert_eq!(list(&["a", "b", "c", "d"]), "a, b, c and d");
+    }
+
+    #[test]
+    fn numbers_in_a_row_stand_together() {
+        assert_eq!([ranges(&[]), ranges(&[7])], ["", "7"]);
+        assert_eq!([ranges(&[0, 1]), ranges(&[0, 2])], ["0 to 1", "0 and 2"]);
+        assert_eq!(ranges(&[0, 1, 2, 3, 5, 7, 8]), "0 to 3, 5 and 7 to 8");
     }
 
     #[test]

@@ -1,10 +1,12 @@
 //! An assertion as the nodes of an accepted table, and its parts as tables of their own.
 mod build;
+mod copying;
 mod operators;
+mod rewritten;
 
 pub use build::{Builder, MOST_NODES};
+use copying::Copying;
 pub use operators::{Operator, Sort};
-use std::collections::HashMap;
 use xistomar::Refusal;
 
 /// A node of a table: its operator and its operands. Operands that are not used are 0.
@@ -138,60 +140,41 @@ impl Assertion {
 
     /// `strong(b)` of a boolean node without a clock: level 3 from each sample that satisfies it.
     pub fn letter(&self, boolean: usize) -> Assertion {
-        let mut builder = Builder::new();
-        let boolean = self.copy(boolean, &mut builder, &mut HashMap::new());
-        let letter = boolean.and_then(|b| builder.add(Operator::Letter, b, 0));
-        let strong = letter.and_then(|letter| builder.add(Operator::Strong, letter, 0));
-        self.built(builder, strong)
+        let mut copying = Copying::of(self);
+        let boolean = copying.copy(boolean);
+        let letter = boolean.and_then(|b| copying.add(Operator::Letter, b, 0));
+        let strong = letter.and_then(|letter| copying.add(Operator::Strong, letter, 0));
+        self.built(copying, strong)
+    }
+
+    /// The same assertion in the kit's order, with `(..) until strong(0)` around some of its property
+    /// nodes; none where that has more than [`MOST_NODES`] nodes.
+    pub fn asked_always(&self, nodes: &[usize]) -> Option<Assertion> {
+        let mut copying = Copying::asking_always(self, nodes);
+        copying.copy(self.root())?;
+        Some(copying.finish())
     }
 
     fn part_under(&self, index: usize, clock: Option<usize>) -> Assertion {
-        let (mut builder, mut copied) = (Builder::new(), HashMap::new());
-        let mut root = self.copy(index, &mut builder, &mut copied);
+        let mut copying = Copying::of(self);
+        let mut root = copying.copy(index);
         if let (Some(condition), Some(part)) = (clock, root) {
             let operator = match self.node(index).operator.sort() {
                 Sort::Property => Operator::ClockedProperty,
                 _ => Operator::ClockedSequence,
             };
-            let condition = self.copy(condition, &mut builder, &mut copied);
-            root = condition.and_then(|condition| builder.add(operator, condition, part));
+            let condition = copying.copy(condition);
+            root = condition.and_then(|condition| copying.add(operator, condition, part));
         }
-        self.built(builder, root)
+        self.built(copying, root)
     }
 
     /// What was built. A part has no more nodes than the whole, so it is always there.
-    fn built(&self, builder: Builder, root: Option<usize>) -> Assertion {
+    fn built(&self, copying: Copying, root: Option<usize>) -> Assertion {
         match root {
-            Some(_) => builder.finish(),
+            Some(_) => copying.finish(),
             None => self.clone(),
         }
-    }
-
-    /// Copies a node and all below it. Of a clock node the operand comes before the condition. A
-    /// boolean that is shared is copied once, since unfolded it could be of any size.
-    fn copy(
-        &self,
-        index: usize,
-        builder: &mut Builder,
-        copied: &mut HashMap<usize, usize>,
-    ) -> Option<usize> {
-        if let Some(copy) = copied.get(&index) {
-            return Some(*copy);
-        }
-        let node = self.node(index);
-        let [mut x, mut y] = [node.x, node.y].map(usize::from);
-        let (first, second) = match node.operator.operands() {
-            [] => (None, None),
-            [_] => (Some(&mut x), None),
-            _ if is_clock(node.operator) => (Some(&mut y), Some(&mut x)),
-            _ => (Some(&mut x), Some(&mut y)),
-        };
-        for operand in [first, second].into_iter().flatten() {
-            *operand = self.copy(*operand, builder, copied)?;
-        }
-        let copy = builder.add(node.operator, x, y)?;
-        copied.insert(index, copy);
-        Some(copy)
     }
 }
 

@@ -1,6 +1,45 @@
 use super::*;
 use crate::testing::table;
 
+/// The page's `@(c) strong(a)`: booleans 0 and 1, a block of nine for the letter, and strong.
+#[test]
+fn a_node_stands_at_the_end_of_its_block() {
+    let nodes = [[1, 0, 0], [1, 2, 0], [16, 0, 0], [32, 2, 0], [40, 1, 3]];
+    let assertion = Assertion::of_table(&table(&nodes)).unwrap();
+    assert_eq!(assertion.rewritten(), [0, 1, 10, 11, 11]);
+}
+
+/// nexttime strong(a) and (strong(a) until @(c) (nexttime strong(a) until strong(a))), the last boolean
+/// after other nodes.
+#[test]
+fn blocks_are_longer_under_a_clock() {
+    let nodes = [
+        [1, 0, 0],
+        [16, 0, 0],
+        [32, 1, 0],
+        [38, 2, 0],
+        [16, 0, 0],
+        [32, 4, 0],
+        [16, 0, 0],
+        [32, 6, 0],
+        [38, 7, 0],
+        [16, 0, 0],
+        [32, 9, 0],
+        [39, 8, 10],
+        [1, 2, 0],
+        [40, 12, 11],
+        [39, 5, 13],
+        [36, 3, 14],
+    ];
+    let table = table(&nodes);
+    let assertion = Assertion::of_table(&table).unwrap();
+    // 2 booleans; 1, 1, 1, 1, 1 node; then 9, 1, 14, 9, 1, 9 under the clock, which has none; then 1, 1
+    let places = [0, 2, 3, 4, 5, 6, 15, 16, 30, 39, 40, 49, 1, 49, 50, 51];
+    assert_eq!(assertion.rewritten(), places);
+    let count = xistomar::rewrite(&table, &mut [0; xistomar::TABLE_BYTES]);
+    assert_eq!(count.unwrap(), 52);
+}
+
 fn tidied(nodes: &[[u8; 3]]) -> Vec<u8> {
     Assertion::of_table(&table(nodes)).unwrap().tidy().table()
 }

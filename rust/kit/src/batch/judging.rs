@@ -1,6 +1,7 @@
 //! Judging many records at once.
 use super::find::Place;
 use crate::files;
+use crate::verdict::{Judged, Reaching};
 use std::fs::File;
 use std::io::Read;
 use std::iter::Zip;
@@ -12,7 +13,7 @@ use std::sync::mpsc::{channel, RecvTimeoutError};
 use std::sync::{Mutex, PoisonError};
 use std::thread;
 use std::time::{Duration, Instant};
-use xistomar::{Judge, Judgement, Refusal, LONGEST};
+use xistomar::{Judge, Refusal, LONGEST};
 
 /// The records that a thread takes at once.
 const PART: usize = 64;
@@ -23,8 +24,8 @@ const TENTH: Duration = Duration::from_millis(100);
 /// What became of a record.
 #[derive(Clone, Debug, PartialEq, Eq)]
 pub enum Answer {
-    /// The judge's answer.
-    Judged(Judgement),
+    /// The judge's answer, and whether every `|->` was asked.
+    Judged(Judged),
     /// The record is refused.
     Refused(Refusal),
     /// The file cannot be read, and why.
@@ -45,7 +46,7 @@ type Parts<'a, 'b> = Zip<Chunks<'a, Place>, ChunksMut<'b, Answer>>;
 
 /// What the threads share.
 struct Shared<'a, 'b> {
-    table: &'a [u8],
+    reaching: &'a Reaching,
     parts: Mutex<Parts<'a, 'b>>,
     done: AtomicUsize,
     slowest: Mutex<Option<(Duration, &'a Path)>>,
@@ -54,14 +55,14 @@ struct Shared<'a, 'b> {
 /// Judges the record at each place by a table that is not refused, with as many threads as run at
 /// once here. While they work, `watch` is told every tenth of a second how many are done.
 pub fn judge_all<'a>(
-    table: &'a [u8],
+    reaching: &'a Reaching,
     places: &'a [Place],
     watch: &mut dyn FnMut(usize),
 ) -> Run<'a> {
     let mut answers = Vec::new();
     answers.resize_with(places.len(), || Answer::Unreadable(String::new()));
     let shared = Shared {
-        table,
+        reaching,
         parts: Mutex::new(places.chunks(PART).zip(answers.chunks_mut(PART))),
         done: AtomicUsize::new(0),
         slowest: Mutex::new(None),
@@ -147,18 +148,18 @@ impl<'s, 'a, 'b> Worker<'s, 'a, 'b> {
         let begun = Instant::now();
         match self.judge() {
             Err(refusal) => Answer::Refused(refusal),
-            Ok(judgement) => {
+            Ok(judged) => {
                 let time = (begun.elapsed(), place.path.as_path());
                 self.slowest = self.slowest.max(Some(time));
-                Answer::Judged(judgement)
+                Answer::Judged(judged)
             }
         }
     }
 
     /// Judges the record that was read.
-    fn judge(&mut self) -> Result<Judgement, Refusal> {
+    fn judge(&mut self) -> Result<Judged, Refusal> {
         let count = xistomar::read(&self.bytes, &mut self.samples)?;
         let samples = self.samples.get(..count).unwrap_or_default();
-        self.judge.judge(self.shared.table, samples)
+        self.shared.reaching.judged(&mut self.judge, samples)
     }
 }

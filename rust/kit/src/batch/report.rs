@@ -3,9 +3,10 @@ use super::{Answer, Found, Run};
 use crate::files::shown;
 use crate::refusals;
 use crate::required::Required;
+use crate::verdict::Judged;
 use std::collections::BTreeMap;
 use std::time::Duration;
-use xistomar::{Judgement, Level};
+use xistomar::Level;
 
 /// What is reported.
 pub struct Report<'a> {
@@ -40,17 +41,19 @@ impl Report<'_> {
         answers.filter(|answer| wanted(answer)).count()
     }
 
-    fn judged(&self, wanted: impl Fn(&Judgement) -> bool) -> usize {
-        self.count(|answer| matches!(answer, Answer::Judged(judgement) if wanted(judgement)))
+    fn judged(&self, wanted: impl Fn(&Judged) -> bool) -> usize {
+        self.count(|answer| matches!(answer, Answer::Judged(judged) if wanted(judged)))
     }
 
     fn held(&self) -> Row {
-        row("held", self.judged(|it| it.level >= Level::Neutral), "")
+        let held = self.judged(|it| it.judgement.level >= Level::Neutral);
+        row("held", held, "")
     }
 
     fn level(&self, label: &str, level: Level) -> Row {
         let label = format!("{label} {}", level.number());
-        row(&label, self.judged(|it| it.level == level), level.meaning())
+        let count = self.judged(|it| it.judgement.level == level);
+        row(&label, count, level.meaning())
     }
 
     /// A row for all refused records, and one for each number that was given.
@@ -77,12 +80,16 @@ impl Report<'_> {
         let all = self.run.answers.len();
         let judged = self.judged(|_| true);
         let mut rows = Vec::new();
-        let untested = self.judged(|it| !it.tested);
-        let words = format!("of {judged} judged: no |-> was put to the test");
+        let untested = self.judged(|it| !it.judgement.tested);
+        let words = format!("of {judged} judged: no strong and no weak was reached");
         rows.push(row("not tested", untested, &words));
+        let unasked = self.judged(|it| !it.asked);
+        let words = format!("of {judged} judged: some |-> was never asked");
+        rows.push(row("never asked", unasked, &words));
         if self.required.asks() {
             let reached = self.judged(|it| self.required.reached(*it));
-            rows.push(row("reached", reached, &self.required_words(all)));
+            let words = format!("of {all}: {}", self.required.words());
+            rows.push(row("reached", reached, &words));
         }
         if self.found.others > 0 {
             let words = "other files, and links to folders";
@@ -95,15 +102,6 @@ impl Report<'_> {
         rows.push(row("speed", format!("{speed:.0}"), "records a second"));
         rows.push(row("time", time_words(self.whole), "in all"));
         rows
-    }
-
-    /// What is required, in words.
-    fn required_words(&self, all: usize) -> String {
-        match (self.required.level, self.required.tested) {
-            (Some(level), true) => format!("of {all}: level {level} or more, and tested"),
-            (Some(level), false) => format!("of {all}: level {level} or more"),
-            _ => format!("of {all}: tested"),
-        }
     }
 }
 
@@ -144,7 +142,10 @@ pub fn list<'a>(found: &'a Found, run: &'a Run) -> impl Iterator<Item = String> 
     pairs.map(|(place, answer)| {
         let name = shown(&place.path);
         match answer {
-            Answer::Judged(judgement) => format!("{name}: {judgement}\n"),
+            Answer::Judged(Judged { judgement, asked }) => match asked {
+                true => format!("{name}: {judgement}\n"),
+                false => format!("{name}: {judgement}, a |-> never asked\n"),
+            },
             Answer::Refused(refusal) => format!("{name}: {}\n", refusals::line(*refusal)),
             Answer::Unreadable(why) => format!("{name}: unreadable: {why}\n"),
         }
@@ -160,7 +161,7 @@ pub fn names<'a>(found: &'a Found, run: &'a Run) -> impl Iterator<Item = String>
     let pairs = || found.places.iter().zip(&run.answers);
     let broken = || {
         let level = |answer: &Answer| match answer {
-            Answer::Judged(judgement) => Some(judgement.level),
+            Answer::Judged(judged) => Some(judged.judgement.level),
             _ => None,
         };
         pairs().filter(move |(_, answer)| level(answer) == Some(Level::Broken))

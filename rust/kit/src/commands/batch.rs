@@ -4,13 +4,15 @@ use crate::batch::{self, Answer, Progress, Report, Run};
 use crate::console::Console;
 use crate::failure::{Failure, Outcome, BELOW, DONE, REFUSED};
 use crate::files::shown;
+use crate::once;
 use crate::options::{Options, Spec};
 use crate::refusals;
 use crate::required::Required;
 use crate::source;
+use crate::verdict::Reaching;
 use std::path::{Path, PathBuf};
 use std::time::Instant;
-use xistomar::Judge;
+use xistomar::{Judge, Refusal};
 
 /// The command.
 pub const COMMAND: Command = Command {
@@ -18,7 +20,7 @@ pub const COMMAND: Command = Command {
     help: HELP,
     spec: Spec {
         values: &["--require"],
-        flags: &["--tested", "--list"],
+        flags: &["--tested", "--asked", "--once", "--list"],
     },
     run,
 };
@@ -27,15 +29,16 @@ fn run(options: &Options, console: &mut Console) -> Outcome {
     let begun = Instant::now();
     let required = Required::of(options)?;
     let (path, given) = given(options)?;
-    let table = source::table(path, None)?.table;
-    let judged = Judge::new().judge(&table, &[]);
-    judged.map_err(|refusal| refusals::failure(path, refusal))?;
+    let source = source::table(path, None)?;
+    let reaching = accepted(&source.table);
+    let reaching = reaching.map_err(|refusal| refusals::failure(path, refusal))?;
     let found = batch::find(given);
     if found.places.is_empty() {
         return Err(no_record(given, found.others));
     }
     let mut progress = Progress::begin(console, found.places.len());
-    let run = batch::judge_all(&table, &found.places, &mut |done| progress.draw(done));
+    let mut watch = |done| progress.draw(done);
+    let run = batch::judge_all(&reaching, &found.places, &mut watch);
     progress.erase();
     let whole = begun.elapsed();
     if options.flag("--list") {
@@ -49,12 +52,23 @@ fn run(options: &Options, console: &mut Console) -> Outcome {
         whole,
     };
     console.say(&report.table())?;
+    let note = once::note(reaching.assertion(), &source.names, options);
+    if !note.is_empty() {
+        console.say(&format!("\n{note}"))?;
+    }
     let mut names = batch::names(&found, &run).peekable();
     if names.peek().is_some() {
         console.say("\n")?;
         console.say_all(names)?;
     }
     status(&run, required)
+}
+
+/// The table, unless the judge refuses it on no samples, 12 and 13 included.
+fn accepted(table: &[u8]) -> Result<Reaching, Refusal> {
+    let reaching = Reaching::of(table)?;
+    reaching.judged(&mut Judge::new(), &[])?;
+    Ok(reaching)
 }
 
 /// The table, and the folders and records.
@@ -95,12 +109,14 @@ fn status(run: &Run, required: Required) -> Outcome {
 }
 
 const HELP: &str = "\
-kit batch TABLE DIR|FILES.. [--require N] [--tested] [--list]
+kit batch TABLE DIR|FILES.. [--require N] [--tested] [--asked] [--once] [--list]
 
 Judges many records by one table and reports how many held, are open or broken, are refused, or
 could not be read. Of a folder every file below it whose name ends in .svw is judged, by name; links
 to folders are not entered. A torn or unreadable file is counted and named, and the run goes on; of
-the broken records the first twenty are named.
+the broken records the first twenty are named. The report counts the records that did not test the
+assertion, and those that never asked some |->; and it says what is asked at the first sample only,
+and how to ask it at every one.
 
 While it runs, a terminal shows a bar on standard error. The slowest record is the one that took
 longest to judge, reading not counted.
@@ -108,9 +124,13 @@ longest to judge, reading not counted.
   TABLE             a .svt file, or a text whose name ends in .txt
   DIR|FILES..       folders of records, and records
   --require N       the level of every record must be N or higher: 0, 1, 2 or 3
-  --tested          every record must test the assertion: the left side of some |-> must match
+  --tested          every record must test the assertion: some strong or weak in it must be reached
+  --asked           every record must ask every |->: its left side must match from a sample at which
+                    the |-> was reached
+  --once            what is asked at the first sample only is meant so, and no word is said of it
   --list            before the report, a line for each record in order and then an empty one:
                     run/0001.svw: level 2 tested yes
+                    run/0004.svw: level 2 tested yes, a |-> never asked
                     run/0002.svw: refused 5 at 0
                     run/0003.svw: unreadable: there is no such file
 
@@ -119,6 +139,6 @@ Example, for every record of tonight's run, none of them broken:
   $ kit batch flush.svt run/ --require 1
 
 The status is 4 where a file or a folder could not be read, or else 3 where a record is refused (or
-the table, and then nothing is judged), or else 1 where a record does not reach what --require and
---tested ask, or else 0. It is 2 for a wrong command line.
+the table, and then nothing is judged), or else 1 where a record does not reach what --require,
+--tested and --asked ask, or else 0. It is 2 for a wrong command line.
 ";

@@ -15,7 +15,7 @@ pub const COMMAND: Command = Command {
     help: HELP,
     spec: Spec {
         values: &["--names", "--require"],
-        flags: &["--json", "--tested"],
+        flags: &["--json", "--tested", "--asked", "--once"],
     },
     run,
 };
@@ -29,13 +29,13 @@ fn run(options: &Options, console: &mut Console) -> Outcome {
     let json = options.flag("--json");
     console.say(&match &judged {
         Ok(account) if json => format!("{}\n", verdict::object(account, required)),
-        Ok(account) => verdict::words(account, required),
+        Ok(account) => verdict::words(account, required, options.flag("--once")),
         Err(refused) if json => format!("{}\n", verdict::refusal_object(*refused, required)),
         Err(refused @ Refused::Table(_)) => verdict::refusal_words(*refused, table, &source.table),
         Err(refused @ Refused::Record(_)) => verdict::refusal_words(*refused, record, &bytes),
     })?;
     Ok(match judged {
-        Ok(account) if required.reached(account.verdict.judgement) => DONE,
+        Ok(account) if required.reached(account.judged()) => DONE,
         Ok(_) => BELOW,
         Err(_) => REFUSED,
     })
@@ -47,12 +47,14 @@ fn judged(source: &Source, record: &[u8]) -> Result<Account, Refused> {
 }
 
 const HELP: &str = "\
-kit judge TABLE RECORD [--names FILE.txt] [--require N] [--tested] [--json]
+kit judge TABLE RECORD [--names FILE.txt] [--require N] [--tested] [--asked] [--once] [--json]
 
 Judges a record by an assertion, and says why.
 
 The first line is always the answer in short: `level 1 tested yes`, or `refused 9 at 3`. Then come
-in words: what the level means; whether the record put the assertion to the test; the level after
+in words: what the level means; whether the record put the assertion to the test; of each |->, the
+samples from which it was reached and those at which its left side then matched, or that it was
+never asked; what is asked at the first sample only, and how to ask it at every one; the level after
 each sample, with samples counted from 0; the sample at which it closed, after which nothing can
 change it; and the decisive part, which is the smallest part of the assertion that by itself
 explains the level.
@@ -64,38 +66,45 @@ waiting, 0 broken.
   RECORD            a .svw file of at most 63 samples
   --names FILE.txt  a text that declares the signals' names, for a .svt; without it signal 3 is s3
   --require N       the level must be N or higher: 0, 1, 2 or 3
-  --tested          the record must test the assertion: of its |->, if any, one must have its left
-                    side matched somewhere in the record, whether or not it was asked there
+  --tested          the record must test the assertion: some strong or weak in it must be reached
+  --asked           the record must ask every |->: its left side must match from a sample at which
+                    the |-> was reached
+  --once            what is asked at the first sample only is meant so, and no word is said of it
   --json            one JSON object on one line instead
 
 The JSON object has every key always, null or empty where there is nothing to say:
 
-  line       the first line, as above
-  level      0 to 3; name and meaning say it in words
-  tested     true or false
-  unmatched  where it was not tested: the left sides of |->, none of which matched
-  assertion  the assertion as text
-  signals    the signals that it asks about: [{\"number\":0,\"name\":\"ack\"},..]
-  samples    how many samples the record has
-  levels     the level after 0, 1, .. samples: levels[0] is before any sample
-  closed     the sample at which the level closed, or null
-  decisive   the decisive part: {\"node\":10,\"part\":\"..\",\"from\":1,\"level\":1,\"turned\":false,
-             \"closed\":null,\"matched\":null}; node is its place in the table, part its text, from
-             the sample from which it was asked and level its own level there; turned is true under
-             an odd number of nots, where the assertion's level is 3 minus this one; closed is the
-             sample at which it closed; matched is [first,last], the samples that a strong or weak
-             part matched
-  required   {\"level\":3,\"tested\":false,\"reached\":false}: what was required, and whether all of it
-             is reached
-  refused    null, or {\"file\":\"table\",\"number\":9,\"node\":3,\"reason\":\"..\"}
+  line          the first line, as above
+  level         0 to 3; name and meaning say it in words
+  tested        true or false
+  implications  each |->, in the order of the table: {\"node\":11,\"part\":\"..\",\"left\":\"..\",
+                \"reached\":[0,1],\"matched\":[1],\"asked\":true}; node is its place in the table, part
+                its text and left that of its left side; reached are the samples from which it was
+                reached, where the number of samples is the end of the record; matched are those at
+                which its left side then matched, and asked is false where there are none
+  once          true where something is asked at the first sample only, with --once and without
+  assertion     the assertion as text
+  signals       the signals that it asks about: [{\"number\":0,\"name\":\"ack\"},..]
+  samples       how many samples the record has
+  levels        the level after 0, 1, .. samples: levels[0] is before any sample
+  closed        the sample at which the level closed, or null
+  decisive      the decisive part: {\"node\":10,\"part\":\"..\",\"from\":1,\"level\":1,\"turned\":false,
+                \"closed\":null,\"matched\":null}; node is its place in the table, part its text, from
+                the sample from which it was asked and level its own level there; turned is true
+                under an odd number of nots, where the assertion's level is 3 minus this one; closed
+                is the sample at which it closed; matched is [first,last], the samples that a strong
+                or weak part matched
+  required      {\"level\":3,\"tested\":false,\"asked\":false,\"reached\":false}: what was required, and
+                whether all of it is reached
+  refused       null, or {\"file\":\"table\",\"number\":9,\"node\":3,\"reason\":\"..\"}
 
 For a message on standard error (status 2 or 4) there is no object.
 
 Example, which fails a script unless the flush was durable and the record shows it:
 
-  $ kit judge flush.svt run/0001.svw --require 2 --tested
+  $ kit judge flush.svt run/0001.svw --require 2 --asked
 
-The status is 0 for a record that was judged, 1 where --require or --tested is not reached, 2 for a
-wrong command line, 3 where the table or the record is refused, and 4 where a file cannot be read or
-understood.
+The status is 0 for a record that was judged, 1 where --require, --tested or --asked is not reached,
+2 for a wrong command line, 3 where the table or the record is refused, and 4 where a file cannot be
+read or understood.
 ";

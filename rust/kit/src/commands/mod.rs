@@ -106,7 +106,7 @@ kit COMMAND --help says more. A TABLE is a .svt file, or a text whose name ends 
 The levels: 3 held whatever comes next, 2 held as the record stands, 1 nothing broken and still
 waiting, 0 broken. A 3 or a 0 is closed: a longer record never overturns it.
 
-The status is 0 when all is done, 1 where what --require and --tested ask is not reached, 2 for a
-wrong command line, 3 where a table or a record is refused, and 4 where a file cannot be read,
-written or understood.
+The status is 0 when all is done, 1 where what --require, --tested and --asked ask is not reached,
+2 for a wrong command line, 3 where a table or a record is refused, and 4 where a file cannot be
+read, written or understood.
 ";

@@ -5,6 +5,7 @@ use crate::console::Console;
 use crate::failure::{Failure, Outcome, DONE};
 use crate::files;
 use crate::notation::{self, Text};
+use crate::once;
 use crate::options::{Options, Spec};
 use crate::refusals::{self, HOLLOW};
 use crate::source;
@@ -18,13 +19,13 @@ pub const COMMAND: Command = Command {
     help: HELP,
     spec: Spec {
         values: &["-o"],
-        flags: &[],
+        flags: &["--once"],
     },
     run,
 };
 
 const HELP: &str = "\
-kit table FILE.txt -o FILE.svt
+kit table FILE.txt -o FILE.svt [--once]
 
 Reads an assertion in the kit's notation and writes it as a table for the judge. The text names the
 signals of a sample by their numbers, 0 to 63, and then says the assertion:
@@ -58,7 +59,12 @@ and the assertion gives a boolean a name. docs/NOTATION.md has the whole grammar
 The table has version 1, or version 2 where rose or fell stands in it, and then the first line says
 so: benches that know version 1 alone refuse it with number 3.
 
+An assertion is asked at the first sample only, where SystemVerilog's `assert property` asks at
+every tick: `P until strong(0)` asks P at every sample, since no sample satisfies 0. Where something
+has no until above it, that is said, with what to write to ask it at every sample.
+
   -o FILE.svt       where the table goes
+  --once            what is asked at the first sample only is meant so, and no word is said of it
 
 Example:
 
@@ -93,7 +99,8 @@ fn run(options: &Options, console: &mut Console) -> Outcome {
     let shown = files::shown(&output);
     let summary = summary(&read.assertion);
     let whole = notation::phrase(&read.assertion, read.assertion.root(), &read.names);
-    console.say(&format!("{shown}: {summary}\nread as: {whole}\n"))?;
+    let note = once::note(&read.assertion, &read.names, options);
+    console.say(&format!("{shown}: {summary}\nread as: {whole}\n{note}"))?;
     if let Some(words) = refusals::too_large(&table) {
         console.tell(&format!("kit table: warning: {shown}: {words}\n"));
     }

@@ -99,8 +99,10 @@ const SIZE: Hint = Words("a signal is 0 or 1, and is not compared by size");
 const NUMBERS: Hint = Words("a signal is 0 or 1: there is nothing to count with here");
 const COMMENT: Hint = Words("comments begin with // and reach to the end of the line");
 const GROUP: Hint = Words("parts are held together by ( and )");
-const SET_UP: Hint =
-    Words("the assertion stands alone, without `assert property (..);` or a name around it");
+const SET_UP: Hint = Words(
+    "the assertion stands alone, without `assert property (..);` or a name around it, and is asked at \
+     the first sample only: `P until strong(0)` asks P at every one",
+);
 const RESET: Hint = Words("resets are not part of the notation: take them out of the record");
 const ABSENT: Hint =
     Words("this operator is not part of the notation: kit table --help lists those that are");

@@ -60,6 +60,18 @@ pub fn phrase(assertion: &Assertion, index: usize, names: &Names) -> String {
     writer::phrase(assertion, index, names)
 }
 
+/// A sequence or property node of an assertion with all below it, under its clock, in one line as
+/// [`phrase`] writes it.
+pub fn part(assertion: &Assertion, index: usize, names: &Names) -> String {
+    let part = assertion.part(index);
+    phrase(&part, part.root(), names)
+}
+
+/// All of an assertion in one line; none where [`phrase`] cuts it.
+pub fn whole(assertion: &Assertion, names: &Names) -> Option<String> {
+    writer::whole(assertion, names)
+}
+
 /// The text without the byte order mark that some editors put before it.
 fn without_mark(text: &str) -> &str {
     text.strip_prefix('\u{feff}').unwrap_or(text)

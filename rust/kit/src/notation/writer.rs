@@ -50,6 +50,16 @@ pub fn phrase(assertion: &Assertion, index: usize, names: &Names) -> String {
     written(nodes, names, VERY_LONG, &mut |_| "..".to_string())
 }
 
+/// All of an assertion in one line, if nothing in it is cut.
+pub fn whole(assertion: &Assertion, names: &Names) -> Option<String> {
+    let mut cut = false;
+    let text = written(assertion.nodes(), names, VERY_LONG, &mut |_| {
+        cut = true;
+        String::new()
+    });
+    (!cut).then_some(text)
+}
+
 /// The declarations: all names in their order, then the signals that are used and have none.
 fn signals(assertion: &Assertion, names: &Names) -> Vec<String> {
     let declared = names.all().iter();

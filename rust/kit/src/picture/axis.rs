@@ -19,7 +19,7 @@ pub fn numbered(column: i32) -> usize {
 /// Draws the ground: the tail's frame and the lines between the columns.
 pub fn draw_ground(svg: &mut Svg, scene: &Scene, layout: &Layout) {
     let (across, down) = (&layout.across, &layout.down);
-    let (width, height) = (across.end - across.tail, down.signals_end - down.clocks);
+    let (width, height) = (across.end - across.tail, down.rows_end - down.clocks);
     if height > 0 {
         svg.leaf(
             "rect",
@@ -35,7 +35,7 @@ pub fn draw_ground(svg: &mut Svg, scene: &Scene, layout: &Layout) {
             ],
         );
     }
-    let upper = (down.clocks, down.signals_end);
+    let upper = (down.clocks, down.rows_end);
     let lower = (down.levels, down.levels_end());
     let borders = (0..=scene.verdict.samples()).map(|sample| across.left(sample));
     let lines: String = borders

@@ -15,8 +15,10 @@ const MOST_LINES: usize = 200;
 fn words(scene: &Scene) -> Vec<&'static str> {
     let judgement = scene.verdict.judgement;
     let mut words = vec![judgement.level.meaning()];
-    if !judgement.tested {
-        words.push("not tested: no |-> has its sequence matched inside the record");
+    match (judgement.tested, scene.asked) {
+        (true, true) => {}
+        (true, false) => words.push("tested, but not every |-> was asked"),
+        (false, _) => words.push("not tested: no strong and no weak was reached"),
     }
     words
 }

@@ -2,7 +2,8 @@
 //!
 //! From left to right: the rows' names, a column for the start, one for each sample, and the tail.
 //! From top to bottom: the heading, the flag where the level is closed, the axis, a row for each
-//! clock, for what rises or falls and for each signal, the axis once more where there are many rows, the levels, the legend.
+//! clock, for what rises or falls, for each signal and for each `|->`, the axis once more where there are
+//! many rows, the levels, the legend.
 use super::scene::Scene;
 use super::style::{ASSERTION, FLAG, NAME};
 use super::text::{cells, room, shorten, wrap};
@@ -55,6 +56,10 @@ pub const ARROW: (i32, i32, i32) = (5, 14, 6);
 pub const SIGNAL_ROW: i32 = 28;
 /// Where a signal's high and low stand in its row.
 pub const SIGNAL: (i32, i32) = (6, 24);
+/// The row of a `|->`.
+pub const IMPLICATION_ROW: i32 = 24;
+/// The radius of the mark of a `|->` that was asked, and of one that was only reached.
+pub const ASKED_MARK: (i32, i32) = (5, 3);
 /// The rows from which on the axis stands above the levels too.
 pub const MANY_ROWS: usize = 16;
 /// What the bar of a level is higher than that of the level below it; level 0 is as high.
@@ -86,6 +91,8 @@ pub mod baseline {
     pub const CHANGE: i32 = 16;
     /// A signal.
     pub const SIGNAL: i32 = 19;
+    /// A `|->`.
+    pub const IMPLICATION: i32 = 16;
     /// The digits of the levels.
     pub const DIGIT: i32 = 15;
     /// A line of the legend.
@@ -183,8 +190,10 @@ pub struct Down {
     pub changes: i32,
     /// The signals.
     pub signals: i32,
-    /// The lower end of the signals.
-    pub signals_end: i32,
+    /// The implications.
+    pub implications: i32,
+    /// The lower end of all these rows.
+    pub rows_end: i32,
     /// The axis once more, where there are many rows.
     pub second_axis: Option<i32>,
     /// The bars of the levels.
@@ -201,7 +210,7 @@ impl Down {
     /// The rows of a scene whose assertion, with the decisive part, and legend have so many lines.
     fn of(scene: &Scene, assertion_lines: usize, legend_lines: usize) -> Down {
         let (clock_rows, change_rows) = (scene.clocks.len(), scene.changes.len());
-        let signal_rows = scene.signals.len();
+        let (signal_rows, implication_rows) = (scene.signals.len(), scene.implications.len());
         let assertion = heading::end(scene) + BREAK;
         let flag = assertion + assertion_height(assertion_lines) + BREAK;
         let closed = scene.verdict.closed().is_some();
@@ -209,10 +218,11 @@ impl Down {
         let clocks = axis + AXIS_ROW;
         let changes = clocks + whole(clock_rows) * CLOCK_ROW;
         let signals = changes + whole(change_rows) * CHANGE_ROW;
-        let signals_end = signals + whole(signal_rows) * SIGNAL_ROW;
-        let many = clock_rows + change_rows + signal_rows > MANY_ROWS;
-        let second_axis = many.then_some(signals_end);
-        let levels = signals_end + if many { AXIS_ROW } else { BREAK };
+        let implications = signals + whole(signal_rows) * SIGNAL_ROW;
+        let rows_end = implications + whole(implication_rows) * IMPLICATION_ROW;
+        let many = clock_rows + change_rows + signal_rows + implication_rows > MANY_ROWS;
+        let second_axis = many.then_some(rows_end);
+        let levels = rows_end + if many { AXIS_ROW } else { BREAK };
         let digits = levels + 4 * STEP;
         let legend = digits + DIGIT_ROW + BREAK;
         let height = legend + whole(legend_lines) * LEGEND_LINE + MARGIN;
@@ -223,7 +233,8 @@ impl Down {
             clocks,
             changes,
             signals,
-            signals_end,
+            implications,
+            rows_end,
             second_axis,
             levels,
             digits,
@@ -260,7 +271,7 @@ impl Layout {
             _ => heading::bounded(wrap(text, across.line_cells())),
         };
         let (assertion, decisive) = (lines(&scene.assertion), lines(&scene.decisive));
-        let legend_lines = legend::lines(across.width).len();
+        let legend_lines = legend::lines(scene, across.width).len();
         let down = Down::of(scene, assertion.len() + decisive.len(), legend_lines);
         Layout {
             across,
@@ -277,7 +288,9 @@ fn row_names(scene: &Scene) -> impl Iterator<Item = String> + '_ {
     let changes = scene.changes.iter().map(|change| &change.trace);
     let plain = changes.chain(&scene.signals);
     let plain = plain.map(|trace| trace.name.clone());
-    clocks.chain(plain).chain(["sample".to_string()])
+    let implications = scene.implications.iter().map(|row| row.name.clone());
+    let all = clocks.chain(plain).chain(implications);
+    all.chain(["sample".to_string()])
 }
 
 /// What the row of a clock is called.

@@ -1,9 +1,10 @@
 //! The legend: the levels in words, and the marks.
 use super::layout::{baseline, Layout, LEGEND_APART, LEGEND_LINE, MARGIN, SWATCH};
+use super::scene::Scene;
 use super::style::{KEY, LEGEND};
 use super::svg::Svg;
 use super::text::{cells, room};
-use super::{closing, levels, ticks};
+use super::{closing, implications, levels, ticks};
 use xistomar::Level;
 
 /// An entry of the legend.
@@ -15,6 +16,10 @@ pub enum Entry {
     Tick,
     /// The closing mark.
     Closing,
+    /// The mark of a `|->` that was asked.
+    Asked,
+    /// The mark of a `|->` that was only reached.
+    Reached,
 }
 
 /// The entries of the upper line.
@@ -27,12 +32,17 @@ const LOWER: [Entry; 4] = [
     Entry::Closing,
 ];
 
+/// The entries of the last line, for the rows of `|->`.
+const LAST: [Entry; 2] = [Entry::Asked, Entry::Reached];
+
 impl Entry {
     fn words(self) -> &'static str {
         match self {
             Entry::Level(level) => level.meaning(),
             Entry::Tick => "clock tick",
             Entry::Closing => "level closed",
+            Entry::Asked => "|-> asked: its left side matched",
+            Entry::Reached => "|-> only reached",
         }
     }
 
@@ -40,7 +50,7 @@ impl Entry {
     fn indent(self) -> i32 {
         match self {
             Entry::Level(_) => SWATCH.0 + 18,
-            Entry::Tick | Entry::Closing => 16,
+            Entry::Tick | Entry::Closing | Entry::Asked | Entry::Reached => 16,
         }
     }
 
@@ -49,21 +59,26 @@ impl Entry {
     }
 }
 
-/// The lines of the legend in a picture of this width: one where there is room, else two.
-pub fn lines(width: i32) -> Vec<Vec<Entry>> {
+/// The lines of the legend in a picture of this width: the levels and marks in one where there is room, else
+/// in two, and those of the rows of `|->` in one of their own.
+pub fn lines(scene: &Scene, width: i32) -> Vec<Vec<Entry>> {
     let all = [&UPPER[..], &LOWER[..]].concat();
     let taken: i32 = all.iter().map(|entry| entry.width() + LEGEND_APART).sum();
-    match taken - LEGEND_APART <= width - 2 * MARGIN {
+    let mut lines = match taken - LEGEND_APART <= width - 2 * MARGIN {
         true => vec![all],
         false => vec![UPPER.to_vec(), LOWER.to_vec()],
+    };
+    if !scene.implications.is_empty() {
+        lines.push(LAST.to_vec());
     }
+    lines
 }
 
 /// Draws the legend.
-pub fn draw(svg: &mut Svg, layout: &Layout) {
+pub fn draw(svg: &mut Svg, scene: &Scene, layout: &Layout) {
     svg.open("g", &[("class", &"legend")]);
     let mut top = layout.down.legend;
-    for line in lines(layout.across.width) {
+    for line in lines(scene, layout.across.width) {
         let mut left = MARGIN;
         for entry in line {
             draw_entry(svg, entry, left, top);
@@ -84,6 +99,8 @@ fn draw_entry(svg: &mut Svg, entry: Entry, left: i32, top: i32) {
         }
         Entry::Tick => ticks::draw_mark(svg, left + 5, top + 5),
         Entry::Closing => closing::draw_mark(svg, left, top + 3),
+        Entry::Asked => implications::draw_asked(svg, left + 5, top + 10),
+        Entry::Reached => implications::draw_reached(svg, left + 5, top + 10),
     }
     svg.words(&LEGEND, (left + entry.indent(), baseline), entry.words());
 }

@@ -1,9 +1,10 @@
-//! The verdict as a picture: an SVG with the signals, the clocks' ticks, what rises and falls, and the
-//! level after each sample.
+//! The verdict as a picture: an SVG with the signals, the clocks' ticks, what rises and falls, where each
+//! `|->` was asked, and the level after each sample.
 mod axis;
 mod changes;
 mod closing;
 mod heading;
+mod implications;
 mod layout;
 mod legend;
 mod levels;
@@ -31,9 +32,10 @@ pub fn draw(scene: &Scene) -> String {
     changes::draw(&mut svg, scene, &layout);
     waves::draw(&mut svg, scene, &layout);
     ticks::draw_lines(&mut svg, scene, &layout);
+    implications::draw(&mut svg, scene, &layout);
     levels::draw(&mut svg, scene, &layout);
     closing::draw(&mut svg, scene, &layout);
-    legend::draw(&mut svg, &layout);
+    legend::draw(&mut svg, scene, &layout);
     svg.finish()
 }
 
@@ -71,8 +73,9 @@ fn description(scene: &Scene, layout: &Layout) -> String {
     let closed = scene.verdict.closed();
     let closed = closed.map_or("still open".to_string(), closing::words);
     format!(
-        "Assertion: {}. {}Samples: {}. Level at the start and after each sample: {}; {closed}.",
+        "Assertion: {}. {}{}Samples: {}. Level at the start and after each sample: {}; {closed}.",
         layout.assertion.join(" "),
+        scene.tested.replace('\n', " "),
         scene.decisive.replace('\n', " "),
         scene.verdict.samples(),
         levels.join(" "),

@@ -2,7 +2,7 @@
 use crate::assertion::{Assertion, Operator};
 use crate::names::Names;
 use crate::notation;
-use crate::verdict::{self, part_words, Verdict};
+use crate::verdict::{self, implication_words, part_words, Implication, Verdict};
 use xistomar::Refusal;
 
 /// A row of the picture: what it is called, and at which samples it is 1.
@@ -23,6 +23,19 @@ pub struct Change {
     pub trace: Trace,
 }
 
+/// A row for a `|->`.
+#[derive(Clone, Debug, PartialEq, Eq)]
+pub struct ImplicationRow {
+    /// Its left side and the sign.
+    pub name: String,
+    /// The samples at which its left side matched from where it was reached, so that it was asked.
+    pub matched: Vec<usize>,
+    /// The other samples at which it was reached.
+    pub reached: Vec<usize>,
+    /// Whether it was reached at the end of the record.
+    pub at_end: bool,
+}
+
 /// What a picture shows.
 #[derive(Clone, Debug, PartialEq, Eq)]
 pub struct Scene {
@@ -36,6 +49,12 @@ pub struct Scene {
     pub changes: Vec<Change>,
     /// The signals that are shown.
     pub signals: Vec<Trace>,
+    /// Whether the record tested the assertion and which `|->` it asked, in words.
+    pub tested: String,
+    /// Whether every `|->` was asked.
+    pub asked: bool,
+    /// The `|->`.
+    pub implications: Vec<ImplicationRow>,
     /// The levels.
     pub verdict: Verdict,
 }
@@ -61,8 +80,13 @@ impl Scene {
             name: names.name(number),
             values: samples.iter().map(|sample| high(*sample, number)).collect(),
         };
+        let implications = account.implications.iter();
+        let implications = implications.map(|implication| row(implication, samples.len()));
         Ok(Scene {
             decisive: part_words(&account),
+            tested: implication_words(&account),
+            asked: account.judged().asked,
+            implications: implications.collect(),
             assertion: account.assertion,
             clocks: assertion
                 .clocks()
@@ -73,6 +97,19 @@ impl Scene {
             signals: shown(&assertion, names).into_iter().map(signal).collect(),
             verdict: account.verdict,
         })
+    }
+}
+
+/// The row of a `|->` on so many samples.
+fn row(implication: &Implication, samples: usize) -> ImplicationRow {
+    let Implication { left, matched, .. } = implication;
+    let reached = implication.reached.iter().copied();
+    let only = |at: &usize| *at < samples && !matched.contains(at);
+    ImplicationRow {
+        name: format!("{left} |->"),
+        matched: matched.clone(),
+        reached: reached.filter(only).collect(),
+        at_end: implication.reached.contains(&samples),
     }
 }
 

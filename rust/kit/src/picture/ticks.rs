@@ -13,7 +13,7 @@ pub fn draw_lines(svg: &mut Svg, scene: &Scene, layout: &Layout) {
     let line = |sample| {
         let (_, height, edge) = TICK_MARK;
         let top = row_top(layout, first(sample)?) + edge + height;
-        let (x, end) = (layout.across.middle(sample), layout.down.signals_end);
+        let (x, end) = (layout.across.middle(sample), layout.down.rows_end);
         Some(format!("M{x} {top}V{end}"))
     };
     let lines: String = (0..scene.verdict.samples()).filter_map(line).collect();

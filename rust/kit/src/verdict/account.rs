@@ -1,9 +1,11 @@
 //! All that is said of a record that was judged, before it is put into words.
 use super::decisive::{decisive, Decisive};
-use super::{verdict, Verdict};
+use super::implications::{implications, Implication};
+use super::{verdict, Judged, Verdict};
 use crate::assertion::{Assertion, Operator};
 use crate::names::Names;
 use crate::notation::phrase;
+use crate::once::Once;
 use xistomar::Refusal;
 
 /// A record's verdict with what explains it; the parts of the assertion in the notation.
@@ -15,8 +17,10 @@ pub struct Account {
     pub assertion: String,
     /// The signals that it asks about, with their names.
     pub signals: Vec<(u8, String)>,
-    /// The left sides of its `|->`, in the order of the table.
-    pub left_sides: Vec<String>,
+    /// Its `|->`, in the order of the table.
+    pub implications: Vec<Implication>,
+    /// What it asks at the first sample only, if anything.
+    pub once: Option<Once>,
     /// The decisive part.
     pub decisive: Decisive,
     /// The decisive part under its clock.
@@ -39,7 +43,8 @@ pub fn account(table: &[u8], names: &Names, samples: &[u64]) -> Result<Account, 
         verdict,
         assertion: phrase(&assertion, assertion.root(), names),
         signals: signals.map(|signal| (signal, names.name(signal))).collect(),
-        left_sides: left_sides(&assertion, names),
+        implications: implications(table, names, samples)?,
+        once: Once::of(&assertion, names),
         decisive,
         part: phrase(&part, part.root(), names),
         operator: assertion.node(decisive.node).operator,
@@ -47,23 +52,12 @@ pub fn account(table: &[u8], names: &Names, samples: &[u64]) -> Result<Account, 
     })
 }
 
-fn left_sides(assertion: &Assertion, names: &Names) -> Vec<String> {
-    let nodes = assertion.nodes().iter();
-    let implications = nodes.filter(|node| node.operator == Operator::Implies);
-    implications
-        .map(|node| {
-            let left = assertion.part(usize::from(node.x));
-            phrase(&left, left.root(), names)
-        })
-        .collect()
-}
-
 impl Account {
-    /// The left sides of `|->` that never matched, where the record did not test the assertion.
-    pub fn unmatched(&self) -> &[String] {
-        match self.verdict.judgement.tested {
-            true => &[],
-            false => &self.left_sides,
+    /// What is held against the caller's requirements.
+    pub fn judged(&self) -> Judged {
+        Judged {
+            judgement: self.verdict.judgement,
+            asked: self.implications.iter().all(Implication::asked),
         }
     }
 }

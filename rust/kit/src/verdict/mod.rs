@@ -2,9 +2,12 @@
 mod account;
 mod asked;
 mod decisive;
+mod implication_words;
+mod implications;
 mod json;
 mod object;
 mod part_words;
+mod reached;
 mod rows;
 mod suffixes;
 #[cfg(test)]
@@ -12,8 +15,11 @@ mod tests;
 mod words;
 
 pub use account::{account, Account};
+pub use implication_words::implication_words;
+pub use implications::Implication;
 pub use object::{object, refusal_object};
 pub use part_words::part_words;
+pub use reached::Reaching;
 pub use suffixes::Suffixes;
 pub use words::{refusal_words, words};
 
@@ -65,6 +71,15 @@ pub fn satisfied(
     let strong = Suffixes::of(&mut Judge::new(), &table, samples)?;
     let holds = |sample| strong.level(sample) == Level::Strong;
     Ok((0..samples.len()).map(holds).collect())
+}
+
+/// What is known of a record that was judged when it is held against what the caller requires.
+#[derive(Clone, Copy, Debug, PartialEq, Eq)]
+pub struct Judged {
+    /// The judge's answer.
+    pub judgement: Judgement,
+    /// Whether every `|->` was asked.
+    pub asked: bool,
 }
 
 /// A refusal, and the file that it is of.

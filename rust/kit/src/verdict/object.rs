@@ -7,20 +7,22 @@
 //! | `line` | the program's line, `level 1 tested yes` or `refused 9 at 3` |
 //! | `level`, `name`, `meaning` | the level, 0 to 3, its name and its meaning in words |
 //! | `tested` | whether the record tested the assertion |
-//! | `unmatched` | where it did not: the left sides of `\|->`, none of which matched |
+//! | `implications` | each `\|->`: its `node` in the table, the `part` in the notation and its `left` side, the samples from which it was `reached` (the number of samples is the end of the record), those at which its left side then `matched`, and whether it was `asked`, that is whether there are any |
+//! | `once` | whether something is asked at the first sample only, since no `until` stands above it |
 //! | `assertion` | the assertion in the notation |
 //! | `signals` | the signals that it asks about, each with its `number` and `name` |
 //! | `samples` | how many samples the record has |
 //! | `levels` | the level after 0, 1, .. samples, up to all of them |
 //! | `closed` | the sample at which the level closed, or `null` where it is open |
 //! | `decisive` | the decisive part: its `node` in the table, the `part` in the notation, the sample that it was asked `from`, its own `level` there, whether it stands under an odd number of `not`s (`turned`), the sample at which it `closed` or `null`, and the first and last sample of the match of a strong or weak part that `matched`, or `null` |
-//! | `required` | what was asked for: the `level` or `null`, and `tested`, with whether all of it is `reached` |
+//! | `required` | what was asked for: the `level` or `null`, `tested` and `asked`, with whether all of it is `reached` |
 //! | `refused` | `null`, or of a refusal the `file` (`table` or `record`), the `number`, the `node` and the `reason` |
 //!
-//! On a refusal `level`, `name`, `meaning`, `tested`, `assertion`, `samples`, `closed` and `decisive` are `null`, the lists
-//! are empty and nothing is reached.
+//! On a refusal `level`, `name`, `meaning`, `tested`, `once`, `assertion`, `samples`, `closed` and `decisive` are `null`,
+//! the lists are empty and nothing is reached.
 use super::account::Account;
 use super::decisive::Decisive;
+use super::implications::Implication;
 use super::json::Json;
 use super::Refused;
 use crate::required::Required;
@@ -30,7 +32,7 @@ use xistomar::Level;
 pub fn object(account: &Account, required: Required) -> Json {
     let judgement = account.verdict.judgement;
     let levels = account.verdict.levels.iter();
-    let unmatched = account.unmatched().iter().map(Json::text);
+    let implications = account.implications.iter();
     let signals = account.signals.iter();
     Json::Object(vec![
         ("line", Json::text(judgement)),
@@ -38,7 +40,11 @@ pub fn object(account: &Account, required: Required) -> Json {
         ("name", Json::text(judgement.level)),
         ("meaning", Json::text(judgement.level.meaning())),
         ("tested", Json::Truth(judgement.tested)),
-        ("unmatched", Json::List(unmatched.collect())),
+        (
+            "implications",
+            Json::List(implications.map(implication).collect()),
+        ),
+        ("once", Json::Truth(account.once.is_some())),
         ("assertion", Json::text(&account.assertion)),
         ("signals", Json::List(signals.map(signal).collect())),
         ("samples", Json::Number(account.verdict.samples())),
@@ -50,7 +56,7 @@ pub fn object(account: &Account, required: Required) -> Json {
         ("decisive", part(&account.decisive, &account.part)),
         (
             "required",
-            wanted(required, required.reached(account.verdict.judgement)),
+            wanted(required, required.reached(account.judged())),
         ),
         ("refused", Json::Null),
     ])
@@ -71,7 +77,8 @@ pub fn refusal_object(refused: Refused, required: Required) -> Json {
         ("name", Json::Null),
         ("meaning", Json::Null),
         ("tested", Json::Null),
-        ("unmatched", Json::List(vec![])),
+        ("implications", Json::List(vec![])),
+        ("once", Json::Null),
         ("assertion", Json::Null),
         ("signals", Json::List(vec![])),
         ("samples", Json::Null),
@@ -94,6 +101,21 @@ fn signal((number, name): &(u8, String)) -> Json {
     ])
 }
 
+fn implication(implication: &Implication) -> Json {
+    let numbers = |samples: &[usize]| {
+        let numbers = samples.iter().copied().map(Json::Number);
+        Json::List(numbers.collect())
+    };
+    Json::Object(vec![
+        ("node", Json::Number(implication.node)),
+        ("part", Json::text(&implication.part)),
+        ("left", Json::text(&implication.left)),
+        ("reached", numbers(&implication.reached)),
+        ("matched", numbers(&implication.matched)),
+        ("asked", Json::Truth(implication.asked())),
+    ])
+}
+
 fn part(decisive: &Decisive, part: &str) -> Json {
     let matched = |(first, last)| Json::List(vec![Json::Number(first), Json::Number(last)]);
     Json::Object(vec![
@@ -112,6 +134,7 @@ fn wanted(required: Required, reached: bool) -> Json {
     Json::Object(vec![
         ("level", Json::maybe(level, Json::Number)),
         ("tested", Json::Truth(required.tested)),
+        ("asked", Json::Truth(required.asked)),
         ("reached", Json::Truth(reached)),
     ])
 }

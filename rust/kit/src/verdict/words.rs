@@ -1,5 +1,6 @@
 //! The verdict in words.
 use super::account::Account;
+use super::implication_words::implication_words;
 use super::rows::rows;
 use super::{part_words, Refused};
 use crate::files;
@@ -8,12 +9,15 @@ use crate::required::Required;
 use std::path::Path;
 use xistomar::Level;
 
-/// The program's line, and then what it says, for people.
-pub fn words(account: &Account, required: Required) -> String {
+/// The program's line, and then what it says, for people; `once` says that asking once is meant.
+pub fn words(account: &Account, required: Required, once: bool) -> String {
     let judgement = account.verdict.judgement;
     let mut text = format!("{judgement}\n\nAssertion: {}\n", account.assertion);
     text.push_str(level_words(judgement.level));
-    text.push_str(&tested_words(account));
+    text.push_str(&implication_words(account));
+    if let Some(asked_once) = account.once.as_ref().filter(|_| !once) {
+        text.push_str(&asked_once.words());
+    }
     text.push_str(&format!("\n{}\n", rows(&account.verdict.levels)));
     text.push_str(&closed_words(account));
     text.push_str(&part_words::part_words(account));
@@ -34,25 +38,6 @@ fn level_words(level: Level) -> &'static str {
     }
 }
 
-/// Whether a `|->` could ask anything of the drive. An untested assertion has none whose left side
-/// matches from any sample on, so all left sides are named.
-fn tested_words(account: &Account) -> String {
-    let words = match (account.verdict.judgement.tested, &*account.left_sides) {
-        (true, []) => "Tested: the assertion has no |->, so that every record tests it.",
-        (true, _) => {
-            "Tested: a left side of |-> matches somewhere in the record, whether or not it was asked there."
-        },
-        (false, [_]) => {
-            "Not tested: the |-> asked nothing of the drive, for its left side never matched:"
-        }
-        (false, _) => {
-            "Not tested: no |-> asked anything of the drive, for these left sides never matched:"
-        }
-    };
-    let listed = account.unmatched().iter().map(|left| format!("  {left}\n"));
-    format!("{words}\n{}", listed.collect::<String>())
-}
-
 /// Whether a longer record may change the level.
 fn closed_words(account: &Account) -> String {
     match account.verdict.closed() {
@@ -61,24 +46,14 @@ fn closed_words(account: &Account) -> String {
     }
 }
 
-/// Whether what was required is reached.
+/// Whether what was required is reached, a line for each.
 fn required_words(account: &Account, required: Required) -> String {
-    let said = |what: &str, reached: bool| match reached {
+    let line = |(what, reached): (String, bool)| match reached {
         true => format!("Required {what}: reached.\n"),
         false => format!("Required {what}: not reached.\n"),
     };
-    let mut words = String::new();
-    if let Some(level) = required.level {
-        let reached = required.level_reached(account.verdict.judgement);
-        words.push_str(&said(&level.to_string(), reached));
-    }
-    if required.tested {
-        words.push_str(&said(
-            "tested",
-            required.test_reached(account.verdict.judgement),
-        ));
-    }
-    words
+    let each = required.each(account.judged());
+    each.into_iter().map(line).collect()
 }
 
 /// The program's line for a refusal, which file it is of and why, and what helps. `path` is where

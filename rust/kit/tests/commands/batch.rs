@@ -45,7 +45,7 @@ fn mixed() -> Folder {
     run.file("a.svw", example_bytes("flush.svw"));
     run.file("b/1.svw", example_bytes("flush-open.svw"));
     run.file("b/2.svw", example_bytes("flush-broken.svw"));
-    run.file("b/deep/3.svw", example_bytes("flush-untested.svw"));
+    run.file("b/deep/3.svw", example_bytes("flush-unasked.svw"));
     run.file("b.svw", example_bytes("flush.svw"));
     run.file("torn.svw", &example_bytes("flush.svw")[..5]);
     run.file("torn2.svw", &example_bytes("flush.svw")[..53]);
@@ -63,7 +63,7 @@ fn a_folder_is_searched_in_order() {
         "a.svw: level 2 tested yes",
         "b/1.svw: level 1 tested yes",
         "b/2.svw: level 0 tested yes",
-        "b/deep/3.svw: level 2 tested no",
+        "b/deep/3.svw: level 2 tested yes, a |-> never asked",
         "b.svw: level 2 tested yes",
         "torn.svw: refused 1 at 0",
         "torn2.svw: refused 5 at 0",
@@ -73,7 +73,7 @@ fn a_folder_is_searched_in_order() {
 }
 
 #[test]
-fn the_report_counts_and_names() {
+fn the_report_counts() {
     let run = mixed();
     let gone = run.join("gone.svw");
     let ran = batch(&[run.as_os_str(), gone.as_os_str()]);
@@ -88,17 +88,26 @@ fn the_report_counts_and_names() {
         ("refused 5", 1),
         ("unreadable", 1),
         ("total", 8),
-        ("not tested", 1),
+        ("not tested", 0),
+        ("never asked", 1),
         ("passed over", 2),
     ];
     for (label, wanted) in counts {
         assert_eq!(count(&ran, label), wanted, "{label} in {}", ran.out);
     }
+}
+
+#[test]
+fn the_report_explains_and_names() {
+    let run = mixed();
+    let gone = run.join("gone.svw");
+    let ran = batch(&[run.as_os_str(), gone.as_os_str()]);
     for words in [
         "held as the record stands; what comes next may break it\n",
         "  fewer than 6 bytes\n",
         "  length disagrees with the count\n",
-        "  of 5 judged: ",
+        "  of 5 judged: no strong and no weak was reached\n",
+        "  of 5 judged: some |-> was never asked\n",
         "\nslowest ",
         "  records a second\n",
     ] {
@@ -144,13 +153,13 @@ fn level_3_is_counted_apart_from_level_2() {
     assert_eq!((count(&ran, "held"), count(&ran, "total")), (2, 3));
     assert_eq!((count(&ran, "level 3"), count(&ran, "level 2")), (2, 0));
     assert_eq!(count(&ran, "open, level 1"), 1);
-    assert!(!ran.out.contains("reached"));
+    assert!(!ran.out.contains("\nreached"));
 }
 
 #[test]
 fn the_status_says_whether_the_goal_is_reached() {
     let [held, open] = ["flush.svw", "flush-open.svw"].map(example);
-    let [broken, untested] = ["flush-broken.svw", "flush-untested.svw"].map(example);
+    let [broken, unasked] = ["flush-broken.svw", "flush-unasked.svw"].map(example);
     let try_goal = |goal: &[&str], records: &[&str], status: u8, reached: usize| {
         let more = [goal, records].concat();
         let ran = batch(&more);
@@ -160,13 +169,16 @@ fn the_status_says_whether_the_goal_is_reached() {
     try_goal(&["--require", "0"], &[&broken, &open], 0, 2);
     try_goal(&["--require", "1"], &[&held, &open], 0, 2);
     try_goal(&["--require", "1"], &[&broken, &open], 1, 1);
-    try_goal(&["--require=2"], &[&held, &open, &untested], 1, 2);
+    try_goal(&["--require=2"], &[&held, &open, &unasked], 1, 2);
     try_goal(&["--require", "3"], &[&held], 1, 0);
     try_goal(&["--tested"], &[&held, &broken], 0, 2);
-    try_goal(&["--tested"], &[&held, &untested], 1, 1);
+    // without an acknowledge strong(0) is reached all the same
+    try_goal(&["--tested"], &[&held, &unasked], 0, 2);
+    try_goal(&["--asked"], &[&held, &broken, &open], 0, 3);
+    try_goal(&["--asked"], &[&held, &unasked], 1, 1);
     try_goal(
-        &["--tested", "--require=2"],
-        &[&held, &untested, &open],
+        &["--tested", "--asked", "--require=2"],
+        &[&held, &unasked, &open],
         1,
         1,
     );
@@ -177,12 +189,75 @@ fn the_status_says_whether_the_goal_is_reached() {
 }
 
 #[test]
+fn what_is_required_stands_in_the_report() {
+    let record = example("flush.svw");
+    let rows = |more: &[&str]| {
+        let ran = batch(&[&[record.as_str()], more].concat());
+        let row = ran.out.lines().find(|line| line.starts_with("reached"));
+        row.unwrap_or_default()
+            .split("  ")
+            .last()
+            .map(str::to_string)
+    };
+    for (more, words) in [
+        (&["--require=2"][..], "of 1: level 2 or more"),
+        (&["--tested"], "of 1: tested"),
+        (&["--asked"], "of 1: every |-> asked"),
+        (
+            &["--tested", "--require=2"],
+            "of 1: level 2 or more and tested",
+        ),
+        (
+            &["--asked", "--tested", "--require=2"],
+            "of 1: level 2 or more, tested and every |-> asked",
+        ),
+    ] {
+        assert_eq!(rows(more).as_deref(), Some(words));
+    }
+}
+
+/// @(clk) without a tick: neither strong is reached, and no |-> is.
+#[test]
+fn untested_records_are_counted() {
+    let [table, ticks, stopped] = ["write.svt", "write.svw", "write-stopped.svw"].map(example);
+    let ran = kit(["batch", &table, &ticks, &stopped, "--tested", "--list"]);
+    assert_eq!((ran.status, count(&ran, "reached")), (1, 1));
+    assert_eq!(
+        (count(&ran, "not tested"), count(&ran, "never asked")),
+        (1, 1)
+    );
+    let listed = format!("{stopped}: level 2 tested no, a |-> never asked\n");
+    assert!(ran.out.contains(&listed), "{}", ran.out);
+}
+
+#[test]
+fn what_is_asked_once_is_said() {
+    let [table, open, held] = ["p1.svt", "p1.svw", "p3.svw"].map(example);
+    let ran = kit(["batch", &table, &open, &held]);
+    let note = "  in all\n\nAsked once: the whole assertion, at the first sample only. To ask at every sample, write\n\
+                \x20 strong(s0 ##1 s1) until strong(0)\nor say with --once that once is meant.\n";
+    assert!(ran.out.ends_with(note), "{}", ran.out);
+    assert_eq!(count(&ran, "never asked"), 0);
+    let meant = kit(["batch", &table, &open, &held, "--once"]);
+    assert!(meant.out.ends_with("  in all\n"), "{}", meant.out);
+    assert_eq!((ran.status, meant.status), (0, 0));
+    // the names of records come last
+    let ran = kit(["batch", &table, &held, &example("flush.svt")]);
+    assert!(
+        ran.out
+            .contains("--once that once is meant.\n\nrefused 2  "),
+        "{}",
+        ran.out
+    );
+}
+
+#[test]
 fn many_records_keep_their_order() {
     let kinds = [
         ("flush.svw", "level 2 tested yes"),
         ("flush-open.svw", "level 1 tested yes"),
         ("flush-broken.svw", "level 0 tested yes"),
-        ("flush-untested.svw", "level 2 tested no"),
+        ("flush-unasked.svw", "level 2 tested yes, a |-> never asked"),
         ("flush.svt", "refused 2 at 0"),
         ("none.svw", "unreadable: there is no such file"),
     ];

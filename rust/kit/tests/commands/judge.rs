@@ -34,7 +34,7 @@ fn a_level_has_status_0_where_none_is_required() {
         ("flush.svw", "level 2 tested yes"),
         ("flush-open.svw", "level 1 tested yes"),
         ("flush-broken.svw", "level 0 tested yes"),
-        ("flush-untested.svw", "level 2 tested no"),
+        ("flush-unasked.svw", "level 2 tested yes"),
     ] {
         let said = flush(name, &[]);
         assert_eq!((said.status, said.line()), (0, line));
@@ -60,14 +60,80 @@ fn require_compares_the_level() {
 
 #[test]
 fn tested_asks_for_a_test() {
-    assert_eq!(flush("flush.svw", &["--tested"]).status, 0);
-    let said = flush("flush-untested.svw", &["--tested"]);
-    assert_eq!(said.status, 1);
+    let [table, ticks, stopped] = ["write.svt", "write.svw", "write-stopped.svw"].map(example);
+    assert_eq!(judge(&table, &ticks, &["--tested"]).status, 0);
+    let said = judge(&table, &stopped, &["--tested"]);
+    assert_eq!((said.status, said.line()), (1, "level 2 tested no"));
     assert!(said.out.ends_with("\nRequired tested: not reached.\n"));
     let both = ["--require", "2", "--tested"];
-    assert_eq!(flush("flush.svw", &both).status, 0);
-    assert_eq!(flush("flush-untested.svw", &both).status, 1);
+    assert_eq!(judge(&table, &ticks, &both).status, 0);
+    assert_eq!(judge(&table, &stopped, &both).status, 1);
     assert_eq!(flush("flush-open.svw", &both).status, 1);
+}
+
+/// strong(0) is reached at every sample, so that the record without an acknowledge tests the assertion.
+#[test]
+fn asked_asks_for_every_implication() {
+    assert_eq!(flush("flush.svw", &["--asked"]).status, 0);
+    assert_eq!(flush("flush-unasked.svw", &["--tested"]).status, 0);
+    let said = flush("flush-unasked.svw", &["--tested", "--asked"]);
+    assert_eq!(said.status, 1);
+    let required = "\nRequired tested: reached.\nRequired asked: not reached.\n";
+    assert!(said.out.ends_with(required), "{}", said.out);
+    assert!(
+        said.out.contains(
+            "\nTested, but not every |-> was asked.\n\
+             Never asked: s0 |-> strong((!s1)[*1:$] ##0 s2), reached from samples 0 to 2: its left side \
+             never matched from there.\n"
+        ),
+        "{}",
+        said.out
+    );
+    let json = flush("flush-unasked.svw", &["--asked", "--json"]);
+    assert_eq!(json.status, 1);
+    let unasked = r#""left":"s0","reached":[0,1,2],"matched":[],"asked":false}],"once":false,"#;
+    assert!(json.out.contains(unasked), "{}", json.out);
+    let required = r#""required":{"level":null,"tested":false,"asked":true,"reached":false}"#;
+    assert!(json.out.contains(required), "{}", json.out);
+    // an assertion without |-> leaves none unasked
+    let [table, record] = ["p1.svt", "p1.svw"].map(example);
+    let said = judge(&table, &record, &["--asked"]);
+    assert!(said.out.ends_with("\nRequired asked: reached.\n"));
+    assert_eq!(said.status, 0);
+}
+
+/// A lost flush: acknowledged at sample 1, and the supply drops at sample 3 before the strobe.
+#[test]
+fn what_is_asked_once_is_said() {
+    let folder = Folder::new();
+    let assertion = "ack |-> strong((!drop)[*1:$] ##0 strobe)";
+    let text = |assertion: &str| format!("signals ack drop strobe\n{assertion}\n");
+    let once = folder.file("once.txt", text(assertion));
+    let lost = example("flush-broken.svw");
+    let said = judge(&once, &lost, &[]);
+    assert_eq!((said.status, said.line()), (0, "level 3 tested no"));
+    let always = format!("({assertion}) until strong(0)");
+    let note = format!(
+        "\nAsked once: the whole assertion, at the first sample only. To ask at every sample, write\n  {always}\n\
+         or say with --once that once is meant.\n"
+    );
+    assert!(said.out.contains(&note), "{}", said.out);
+    let meant = judge(&once, &lost, &["--once"]);
+    assert_eq!(meant.out, said.out.replace(note.trim_start(), ""));
+    // the object says it either way
+    for more in [&["--json"][..], &["--json", "--once"]] {
+        let json = judge(&once, &lost, more).out;
+        assert!(json.contains(r#","once":true,"#), "{json}");
+    }
+    // what is suggested sees the lost flush, and has nothing to say of once
+    let always = folder.file("always.txt", text(&always));
+    let said = judge(&always, &lost, &[]);
+    assert_eq!((said.status, said.line()), (0, "level 0 tested yes"));
+    assert!(!said.out.contains("--once"), "{}", said.out);
+    assert_eq!(judge(&always, &lost, &["--once"]), said);
+    assert!(judge(&always, &lost, &["--json"])
+        .out
+        .contains(r#","once":false,"#));
 }
 
 #[test]
@@ -381,7 +447,8 @@ fn the_help_names_every_key_of_the_object() {
         "line",
         "level",
         "tested",
-        "unmatched",
+        "implications",
+        "once",
         "assertion",
         "signals",
         "samples",

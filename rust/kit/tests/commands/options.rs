@@ -59,8 +59,9 @@ fn an_unknown_option_is_named() {
 }
 
 /// Options of the commands, and whether a value follows.
-const OPTIONS: [(&str, &[&str], bool); 10] = [
+const OPTIONS: [(&str, &[&str], bool); 11] = [
     ("table", &["-o"], true),
+    ("table", &["--once"], false),
     ("show", &["--names"], true),
     ("show", &["--nodes"], false),
     ("record", &["--settled", "--times"], false),
@@ -78,10 +79,10 @@ const OPTIONS: [(&str, &[&str], bool); 10] = [
         true,
     ),
     ("judge", &["--require", "--names"], true),
-    ("judge", &["--json"], false),
+    ("judge", &["--json", "--tested", "--asked", "--once"], false),
     ("picture", &["-o", "--names"], true),
     ("batch", &["--require"], true),
-    ("batch", &["--tested", "--list"], false),
+    ("batch", &["--tested", "--asked", "--once", "--list"], false),
 ];
 
 #[test]

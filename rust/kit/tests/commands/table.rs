@@ -47,7 +47,7 @@ fn a_rise_makes_a_table_of_version_2() {
         "signals ack=0 drop=1\nrose(ack) |-> strong(!fell(drop) & drop)\n",
     );
     let output = folder.path("rise.svt");
-    let Ran { status, out, err } = kit(["table", &text, "-o", &output]);
+    let Ran { status, out, err } = kit(["table", &text, "-o", &output, "--once"]);
     assert_eq!((status, err.as_str()), (0, ""));
     let summary = "version 2, 9 nodes, 2 signals, a property";
     let read = "rose(ack) |-> strong(!fell(drop) & drop)";
@@ -84,6 +84,25 @@ fn how_a_text_was_read_is_said() {
         read("(weak(a) until strong(0)) and (weak(b) until strong(0))"),
         "read as: (weak(a) until strong(0)) and (weak(b) until strong(0))"
     );
+}
+
+#[test]
+fn what_is_asked_once_is_said() {
+    let folder = Folder::new();
+    let text = folder.file("once.txt", "signals a b c\n@(c) (a |-> strong(b))\n");
+    let table = folder.path("once.svt");
+    let said = kit(["table", &text, "-o", &table]);
+    assert_eq!((said.status, said.err.as_str()), (0, ""));
+    let read =
+        format!("{table}: 8 nodes, 3 signals, a property\nread as: @(c) (a |-> strong(b))\n");
+    let note = "Asked once: the whole assertion, at the first sample only. To ask at every tick, write\n\
+                \x20 @(c) ((a |-> strong(b)) until strong(0))\nor say with --once that once is meant.\n";
+    assert_eq!(said.out, format!("{read}{note}"));
+    let written = fs::read(&table).unwrap();
+    let meant = kit(["table", &text, "-o", &table, "--once"]);
+    assert_eq!((meant.status, meant.out), (0, read));
+    // the table is the same either way
+    assert_eq!(fs::read(&table).unwrap(), written);
 }
 
 #[test]
@@ -135,7 +154,7 @@ fn a_table_that_is_too_large_rewritten_is_written_with_a_warning() {
     let letters = vec!["a"; 14].join(" ##1 ");
     let text = folder.file("large.txt", format!("signals a c\n@(c) strong({letters})"));
     let table = folder.path("large.svt");
-    let Ran { status, out, err } = kit(["table", &text, "-o", &table]);
+    let Ran { status, out, err } = kit(["table", &text, "-o", &table, "--once"]);
     // a, c, 14 letters, 13 ##1, strong, clock
     let read = format!("@(c) strong({letters})");
     let said = format!("{table}: 31 nodes, 2 signals, a property\nread as: {read}\n");
@@ -223,7 +242,7 @@ fn files_that_are_no_texts_have_status_4() {
 fn the_help_says_how_it_is_used_and_its_example_is_true() {
     let Ran { status, out, .. } = kit(["table", "--help"]);
     assert_eq!(status, 0);
-    assert!(out.starts_with("kit table FILE.txt -o FILE.svt"));
+    assert!(out.starts_with("kit table FILE.txt -o FILE.svt [--once]\n"));
     assert!(out.lines().all(|line| line.chars().count() <= 100), "{out}");
     let assertion = FLUSH.lines().last().unwrap();
     assert!(out.contains(&format!("\n  read as: {assertion}\n")));

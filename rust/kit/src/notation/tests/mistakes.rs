@@ -216,7 +216,7 @@ fn what_other_languages_write_gets_a_hint() {
         ("@(negedge a) strong(b)", 3, "`negedge c` is written `fell(c)`, as in `@(fell(c))`: c is 0, and was 1 at the sample before; `kit record --on` takes samples at an edge"),
         ("@(edge a) strong(b)", 3, "`edge c` is written `rose(c) | fell(c)`: c is not as it was at the sample before; `kit record --on` takes samples at an edge"),
         ("strong(a);", 10, "leave ; out: a declaration ends with its line, and the assertion with the text"),
-        ("assert property (strong(a))", 1, "the assertion stands alone, without `assert property (..);` or a name around it"),
+        ("assert property (strong(a))", 1, "the assertion stands alone, without `assert property (..);` or a name around it, and is asked at the first sample only: `P until strong(0)` asks P at every one"),
         ("strong($rose(a))", 8, "`$rose(a)` is written `rose(a)`, and goes by the sample before, not by the clock tick before"),
         ("strong($rose(a, @(posedge b)))", 8, "`$rose(a)` is written `rose(a)`, and goes by the sample before, not by the clock tick before"),
         ("@(c) $fell(a) |-> strong(b)", 6, "`$fell(a)` is written `fell(a)`, and goes by the sample before, not by the clock tick before"),

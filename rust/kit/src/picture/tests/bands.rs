@@ -32,13 +32,14 @@ fn a_bar_is_as_high_as_its_level_and_stands_in_its_column() {
     let shape =
         |bar: &Element| ["class", "x", "width", "y", "height"].map(|a| bar.get(a).to_string());
     let bars: Vec<_> = bars.map(shape).collect();
-    // signals end at 128 + 3 * 28 = 212, bars begin at 224 and stand on 224 + 4 * 14 = 280
+    // signals end at 128 + 3 * 28 = 212 and the row of the |-> at 236; bars begin at 248 and stand on
+    // 248 + 4 * 14 = 304
     let wanted = [
-        ["bar-2", "70", "48", "238", "42"],
-        ["bar-2", "118", "80", "238", "42"],
-        ["bar-1", "198", "80", "252", "28"],
-        ["bar-1", "278", "80", "252", "28"],
-        ["open", "358", "346", "224", "56"],
+        ["bar-2", "70", "48", "262", "42"],
+        ["bar-2", "118", "80", "262", "42"],
+        ["bar-1", "198", "80", "276", "28"],
+        ["bar-1", "278", "80", "276", "28"],
+        ["open", "358", "346", "248", "56"],
     ];
     assert_eq!(bars, wanted);
 }
@@ -56,9 +57,9 @@ fn a_waveform_is_high_and_low_with_edges_at_the_columns() {
     assert_eq!(values(&drawn, "shade", "d"), ["M198 152V134H278V152Z"]);
     assert_eq!(
         texts(&drawn, "name"),
-        ["sample", "ack", "drop", "strobe", "level"]
+        ["sample", "ack", "drop", "strobe", "p", "level"]
     );
-    assert_eq!(values(&drawn, "name", "x"), vec!["60"; 5]);
+    assert_eq!(values(&drawn, "name", "x"), vec!["60"; 6]);
 }
 
 #[test]

@@ -47,6 +47,7 @@ fn an_arrow_points_where_the_signal_goes() {
         "a",
         "b",
         "c",
+        "p",
         "level",
     ];
     assert_eq!(texts(&drawn, "name"), names);

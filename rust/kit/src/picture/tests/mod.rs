@@ -2,6 +2,7 @@
 mod bands;
 mod changes;
 mod elements;
+mod implications;
 mod made;
 mod words;
 
@@ -21,13 +22,17 @@ fn strong_a() -> Vec<u8> {
 }
 
 /// The scene of a table whose signals 0, 1, .. have these names. Its assertion takes one line, its
-/// decisive part none, and its clocks are called c, d, .. so that the layout does not depend on the notation.
+/// decisive part none, its clocks are called c, d, .. and its implications p, q, .. so that the layout does
+/// not depend on the notation.
 fn scene(table: &[u8], list: &[&str], samples: &[u64]) -> Scene {
     let mut scene = Scene::of(table, &Names::of(list), samples).unwrap();
     scene.assertion = "the assertion".to_string();
     scene.decisive = String::new();
     for (clock, name) in scene.clocks.iter_mut().zip('c'..) {
         clock.name = name.to_string();
+    }
+    for (row, name) in scene.implications.iter_mut().zip('p'..) {
+        row.name = name.to_string();
     }
     scene
 }

@@ -2,6 +2,7 @@
 use super::super::style::{DARK, GREY, PALE, TINT};
 use super::super::text::{cells, shorten, wrap};
 use super::*;
+use crate::notation;
 
 #[test]
 fn the_heading_says_the_programs_line_the_meaning_and_the_assertion() {
@@ -9,9 +10,28 @@ fn the_heading_says_the_programs_line_the_meaning_and_the_assertion() {
     assert_eq!(texts(&open, "line"), ["level 1 tested yes"]);
     assert_eq!(texts(&open, "meaning"), ["nothing broken, still waiting"]);
     assert_eq!(texts(&open, "assertion"), ["the assertion"]);
-    let untested = drawn(&flush(&[0, 4, 2]));
-    assert_eq!(texts(&untested, "line"), ["level 2 tested no"]);
-    assert_eq!(texts(&untested, "meaning").len(), 2);
+}
+
+#[test]
+fn the_heading_says_what_was_not_asked() {
+    let heading = |assertion: &str, samples: &[u64]| {
+        let read = notation::read(&format!("signals a b\n{assertion}")).unwrap();
+        let drawn = drawn(&scene(&read.assertion.table(), &["a", "b"], samples));
+        (
+            texts(&drawn, "line").concat(),
+            texts(&drawn, "meaning")[1..].concat(),
+        )
+    };
+    let said = |line: &str, more: &str| (line.to_string(), more.to_string());
+    let untested = "not tested: no strong and no weak was reached";
+    assert_eq!(
+        heading("a |-> strong(b)", &[2]),
+        said("level 3 tested no", untested)
+    );
+    let both = "(a |-> strong(b)) and (b |-> strong(b))";
+    let unasked = "tested, but not every |-> was asked";
+    assert_eq!(heading(both, &[2]), said("level 3 tested yes", unasked));
+    assert_eq!(heading(both, &[3]), said("level 3 tested yes", ""));
 }
 
 #[test]
@@ -31,7 +51,9 @@ fn who_hears_the_picture_hears_the_verdict() {
         said("kit-title"),
         "level 0 tested yes: broken, whatever comes next"
     );
-    let description = "Assertion: the assertion. Samples: 5. Level at the start and after each \
+    let description = "Assertion: the assertion. Tested: the record put the assertion to the test. \
+                       Asked: ack |-> strong((!drop)[*1:$] ##0 strobe), reached from samples 0 to 1: its \
+                       left side matched at sample 1. Samples: 5. Level at the start and after each \
                        sample: 2 2 1 1 0 0; closed at sample 3.";
     assert_eq!(said("kit-words"), description);
 }
@@ -47,6 +69,8 @@ fn the_legend_has_the_levels_and_the_marks() {
         "broken, whatever comes next",
         "clock tick",
         "level closed",
+        "|-> asked: its left side matched",
+        "|-> only reached",
     ];
     assert_eq!(texts(&drawn, "legend"), words);
 }

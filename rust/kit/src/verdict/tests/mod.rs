@@ -1,7 +1,9 @@
 //! The verdict and its decisive part, on tables and samples worked out by hand and on random ones.
 mod clocked;
+mod listed;
 mod pages;
 mod random;
+mod reaching;
 mod rising;
 mod rules;
 mod said;

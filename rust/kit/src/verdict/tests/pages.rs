@@ -134,5 +134,5 @@ fn a_broken_flush_is_broken_by_the_drop_at_sample_3() {
 fn a_good_flush_stays_open_for_the_next_acknowledge() {
     let levels = [2, 2, 1, 1, 2, 2, 2];
     check(&FLUSH, &flush("flush"), &levels, None, (14, 0, 2));
-    check(&FLUSH, &flush("flush-untested"), &[2; 4], None, (14, 0, 2));
+    check(&FLUSH, &flush("flush-unasked"), &[2; 4], None, (14, 0, 2));
 }

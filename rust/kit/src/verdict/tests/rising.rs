@@ -161,7 +161,7 @@ fn a_strobe_that_was_there_before_has_not_risen() {
     let names = Names::of(&["ack", "strobe", "supply"]);
     let told = account(&table(&rise()), &names, &samples).unwrap();
     assert_eq!(told.signals.len(), 3);
-    let said = words(&told, Required::default());
+    let said = words(&told, Required::default(), false);
     let part = "strong((!fell(supply))[*1:$] ##0 rose(strobe))";
     let decisive = format!(
         "\nDecisive: {part}, asked from sample 1: broken at sample 3, for it can no longer match.\n"

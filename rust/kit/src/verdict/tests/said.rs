@@ -6,7 +6,7 @@ use super::super::{samples, Refused};
 use super::table;
 use crate::assertion::Assertion;
 use crate::names::Names;
-use crate::notation::phrase;
+use crate::notation::{self, phrase};
 use crate::required::Required;
 use std::path::Path;
 
@@ -20,8 +20,11 @@ fn told(nodes: &[[u8; 3]], samples: &[u64]) -> Account {
 
 /// A node of a table in the notation, under its clock.
 fn part(nodes: &[[u8; 3]], index: usize) -> String {
-    let part = Assertion::of_table(&table(nodes)).unwrap().part(index);
-    phrase(&part, part.root(), &names())
+    notation::part(
+        &Assertion::of_table(&table(nodes)).unwrap(),
+        index,
+        &names(),
+    )
 }
 
 fn whole(nodes: &[[u8; 3]]) -> String {
@@ -48,30 +51,47 @@ fn the_parts_stand_in_the_notation() {
     assert_eq!(part(&ASKED, 6), "strong(strobe ##1 strobe)");
 }
 
+/// What is said where `--once` is given and nothing is required.
+fn said(nodes: &[[u8; 3]], samples: &[u64]) -> String {
+    words(&told(nodes, samples), Required::default(), true)
+}
+
+/// The same of an assertion as text.
+fn said_of(assertion: &str, samples: &[u64]) -> String {
+    let read = notation::read(&format!("signals ack strobe\n{assertion}")).unwrap();
+    let told = account(&read.assertion.table(), &read.names, samples).unwrap();
+    words(&told, Required::default(), true)
+}
+
 #[test]
 fn a_waiting_record_in_words() {
     let required = Required {
         level: Some(2),
         tested: true,
+        asked: true,
     };
     let expected = format!(
         "level 1 tested yes\n\
          \n\
-         Assertion: {}\n\
+         Assertion: {0}\n\
          Level 1, weak: nothing is broken, and something is still awaited.\n\
          If nothing more came, the assertion would not have held.\n\
-         Tested: a left side of |-> matches somewhere in the record, whether or not it was asked there.\n\
+         Tested: the record put the assertion to the test.\n\
+         Asked: {0}, reached from sample 0: its left side matched at sample 0.\n\
+         Asked once: the whole assertion, at the first sample only. To ask at every sample, write\n  ({0}) until strong(0)\n\
+         or say with --once that once is meant.\n\
          \n  sample  start   0\n  level       2   1\n\
          \n\
          Not closed: what comes next may still change it.\n\
-         Decisive: {}, asked from sample 0: still waiting for its match.\n\
+         Decisive: {1}, asked from sample 0: still waiting for its match.\n\
          Once it is broken, so is the assertion.\n\
          Required 2: not reached.\n\
-         Required tested: reached.\n",
+         Required tested: reached.\n\
+         Required asked: reached.\n",
         whole(&ASKED),
         part(&ASKED, 6)
     );
-    assert_eq!(words(&told(&ASKED, &[3]), required), expected);
+    assert_eq!(words(&told(&ASKED, &[3]), required, false), expected);
 }
 
 #[test]
@@ -80,44 +100,71 @@ fn an_untested_record_in_words() {
     let expected = format!(
         "level 3 tested no\n\
          \n\
-         Assertion: {}\n\
+         Assertion: {0}\n\
          Level 3, strong: the assertion held, whatever comes next.\n\
-         Not tested: the |-> asked nothing of the drive, for its left side never matched:\n  {}\n\
+         Not tested: no strong and no weak of the assertion was reached.\n\
+         Never asked: {0}, reached from sample 0: its left side never matched from there.\n\
          \n  sample  start   0   1\n  level       2   3   3\n\
          \n\
          Closed at sample 0: a longer record never overturns it.\n\
          Decisive: the whole assertion, asked from sample 0: held at sample 0, for its left \
          side can no longer match from there: nothing was asked.\n",
-        whole(&ASKED),
-        part(&ASKED, 2)
+        whole(&ASKED)
     );
-    assert_eq!(words(&told(&ASKED, &[2, 0]), Required::default()), expected);
+    assert_eq!(said(&ASKED, &[2, 0]), expected);
 }
 
 #[test]
 fn an_untested_record_may_be_broken() {
-    // strong(strobe) and (ack |-> strong(ack)): without ack no |-> asks anything, and strobe was asked
-    let nodes = [
-        [1, 0, 0],
-        [1, 1, 0],
-        [16, 1, 0],
-        [32, 2, 0],
-        [16, 0, 0],
-        [16, 0, 0],
-        [32, 5, 0],
-        [37, 4, 6],
-        [36, 3, 7],
-    ];
-    let text = words(&told(&nodes, &[0]), Required::default());
+    // without ack the |-> holds and asks nothing
+    let text = said_of("not (ack |-> strong(strobe))", &[0]);
     assert!(text.starts_with("level 0 tested no\n"), "{text}");
     let untested =
-        "Not tested: the |-> asked nothing of the drive, for its left side never matched:";
+        "\nNot tested: no strong and no weak of the assertion was reached.\nNever asked: ";
     assert!(text.contains(untested), "{text}");
+}
+
+#[test]
+fn a_tested_record_says_what_was_never_asked() {
+    let nested = "(ack |-> weak(ack)) and (strobe |-> ack |-> weak(strobe))";
+    // ack and no strobe: the inner |-> on the right is never reached
+    let text = said_of(nested, &[1]);
+    let expected = "\nTested, but not every |-> was asked.\n\
+                    Asked: ack |-> weak(ack), reached from sample 0: its left side matched at sample 0.\n\
+                    Never asked: ack |-> weak(strobe): it was never reached.\n\
+                    Never asked: strobe |-> ack |-> weak(strobe), reached from sample 0: its left side never \
+                    matched from there.\n\n  sample";
+    assert!(text.contains(expected), "{text}");
+    // both, and every |-> is asked
+    let text = said_of(nested, &[3]);
+    let tested = "\nTested: the record put the assertion to the test.\nAsked: ";
+    assert!(text.contains(tested), "{text}");
+    assert!(!text.contains("Never asked"), "{text}");
+}
+
+#[test]
+fn samples_are_named_in_ranges_and_the_end_by_its_name() {
+    let text = said_of("(ack |-> weak(ack)) until strong(0)", &[1, 0, 1, 1, 0]);
+    let expected =
+        "\nAsked: ack |-> weak(ack), reached from samples 0 to 4: its left side matched at \
+                    samples 0 and 2 to 3.\n";
+    assert!(text.contains(expected), "{text}");
+    // on one sample only the end is left
+    let text = said_of("nexttime (ack |-> weak(ack))", &[1]);
+    let expected =
+        "\nNever asked: ack |-> weak(ack), reached from the end of the record: its left side \
+                    never matched from there.\n";
+    assert!(text.contains(expected), "{text}");
+    // from the sample after each
+    let text = said_of("1[*1:$] |-> nexttime (ack |-> weak(ack))", &[0, 0]);
+    let expected =
+        "\nNever asked: ack |-> weak(ack), reached from sample 1 and the end of the record: ";
+    assert!(text.contains(expected), "{text}");
 }
 
 /// The sentences about the decisive part and all after it.
 fn decisive(nodes: &[[u8; 3]], samples: &[u64]) -> String {
-    let text = words(&told(nodes, samples), Required::default());
+    let text = said(nodes, samples);
     let (_, found) = text.split_once("Decisive: ").unwrap();
     let (_, found) = found.split_once(", asked from ").unwrap();
     found.to_string()
@@ -209,11 +256,13 @@ fn a_judged_record_as_json() {
     let required = Required {
         level: Some(3),
         tested: false,
+        asked: true,
     };
     let expected = format!(
-        r#"{{"line":"level 1 tested yes","level":1,"name":"weak","meaning":"nothing broken, still waiting","tested":true,"unmatched":[],"assertion":"{}","signals":[{{"number":0,"name":"ack"}},{{"number":1,"name":"strobe"}}],"samples":1,"levels":[2,1],"closed":null,"decisive":{{"node":6,"part":"{}","from":0,"level":1,"turned":false,"closed":null,"matched":null}},"required":{{"level":3,"tested":false,"reached":false}},"refused":null}}"#,
+        r#"{{"line":"level 1 tested yes","level":1,"name":"weak","meaning":"nothing broken, still waiting","tested":true,"implications":[{{"node":7,"part":"{0}","left":"{2}","reached":[0],"matched":[0],"asked":true}}],"once":true,"assertion":"{0}","signals":[{{"number":0,"name":"ack"}},{{"number":1,"name":"strobe"}}],"samples":1,"levels":[2,1],"closed":null,"decisive":{{"node":6,"part":"{1}","from":0,"level":1,"turned":false,"closed":null,"matched":null}},"required":{{"level":3,"tested":false,"asked":true,"reached":false}},"refused":null}}"#,
         whole(&ASKED),
-        part(&ASKED, 6)
+        part(&ASKED, 6),
+        part(&ASKED, 2)
     );
     let written = object(&told(&ASKED, &[3]), required).to_string();
     assert_eq!(written, expected);
@@ -225,9 +274,13 @@ fn a_closed_record_as_json() {
     let closed = r#""from":0,"level":3,"turned":false,"closed":1,"matched":[0,1]}"#;
     assert!(written.contains(closed), "{written}");
     let untested = object(&told(&ASKED, &[0]), Required::default()).to_string();
-    let unmatched = format!(r#""tested":false,"unmatched":["{}"]"#, part(&ASKED, 2));
-    assert!(untested.contains(&unmatched), "{untested}");
-    let free = r#""required":{"level":null,"tested":false,"reached":true}"#;
+    assert!(
+        untested.contains(r#""tested":false,"implications":"#),
+        "{untested}"
+    );
+    let unasked = r#""reached":[0],"matched":[],"asked":false}]"#;
+    assert!(untested.contains(unasked), "{untested}");
+    let free = r#""required":{"level":null,"tested":false,"asked":false,"reached":true}"#;
     assert!(untested.contains(free), "{untested}");
 }
 
@@ -244,7 +297,7 @@ fn a_refusal_in_words_and_as_json() {
     let said = refusal_words(refused, Path::new("hollow.svt"), &hollow);
     assert_eq!(said, expected);
     let written = refusal_object(refused, Required::default()).to_string();
-    let expected = r#"{"line":"refused 9 at 3","level":null,"name":null,"meaning":null,"tested":null,"unmatched":[],"assertion":null,"signals":[],"samples":null,"levels":[],"closed":null,"decisive":null,"required":{"level":null,"tested":false,"reached":false},"refused":{"file":"table","number":9,"node":3,"reason":"strong, weak or |-> over a sequence that matches no k letters ⊤, k at least 1"}}"#;
+    let expected = r#"{"line":"refused 9 at 3","level":null,"name":null,"meaning":null,"tested":null,"implications":[],"once":null,"assertion":null,"signals":[],"samples":null,"levels":[],"closed":null,"decisive":null,"required":{"level":null,"tested":false,"asked":false,"reached":false},"refused":{"file":"table","number":9,"node":3,"reason":"strong, weak or |-> over a sequence that matches no k letters ⊤, k at least 1"}}"#;
     assert_eq!(written, expected);
 }
 
@@ -259,5 +312,5 @@ fn both_objects_have_the_same_keys() {
     let refused = samples(b"", b"").unwrap_err();
     let judged = keys(object(&told(&ASKED, &[3]), Required::default()));
     assert_eq!(judged, keys(refusal_object(refused, Required::default())));
-    assert_eq!(judged.len(), 14);
+    assert_eq!(judged.len(), 15);
 }

@@ -1,0 +1,51 @@
+//! Whether the record tested the assertion, and which `|->` were asked, in words.
+use super::account::Account;
+use super::implications::Implication;
+use crate::words;
+
+/// Whether the record tested the assertion, and then a line for each `|->`.
+pub fn implication_words(account: &Account) -> String {
+    let judged = account.judged();
+    let mut text = match (judged.judgement.tested, judged.asked) {
+        (true, true) => "Tested: the record put the assertion to the test.\n",
+        (true, false) => "Tested, but not every |-> was asked.\n",
+        (false, _) => "Not tested: no strong and no weak of the assertion was reached.\n",
+    }
+    .to_string();
+    let samples = account.verdict.samples();
+    for implication in &account.implications {
+        text.push_str(&line(implication, samples));
+    }
+    text
+}
+
+fn line(implication: &Implication, samples: usize) -> String {
+    let part = &implication.part;
+    if implication.reached.is_empty() {
+        return format!("Never asked: {part}: it was never reached.\n");
+    }
+    let from = places(&implication.reached, samples);
+    match implication.asked() {
+        true => {
+            let at = places(&implication.matched, samples);
+            format!("Asked: {part}, reached from {from}: its left side matched at {at}.\n")
+        }
+        false => format!(
+            "Never asked: {part}, reached from {from}: its left side never matched from there.\n"
+        ),
+    }
+}
+
+/// `sample 3`, `samples 0 to 3 and 5`, and after them the end of the record.
+fn places(positions: &[usize], samples: usize) -> String {
+    let (inside, end): (Vec<usize>, Vec<usize>) =
+        positions.iter().partition(|position| **position < samples);
+    let inside = match inside.as_slice() {
+        [] => None,
+        [sample] => Some(format!("sample {sample}")),
+        many => Some(format!("samples {}", words::ranges(many))),
+    };
+    let end = (!end.is_empty()).then(|| "the end of the record".to_string());
+    let places: Vec<String> = [inside, end].into_iter().flatten().collect();
+    words::list(&places)
+}

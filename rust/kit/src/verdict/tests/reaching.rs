@@ -1,0 +1,156 @@
+//! Where parts are reached, on random tables and records: against the rules at the head of `reached.rs` taken
+//! one by one, with every part asked of the library as a table of its own; and against the judge's flag.
+use super::super::asked::Asked;
+use super::super::reached::{Reached, Reaching};
+use super::random::accepted;
+use crate::assertion::{Assertion, Operator, Sort};
+use std::collections::HashSet;
+use xistomar::{Judge, Level};
+
+/// Where a record reaches the parts of an assertion, by the kit.
+fn reached(assertion: &Assertion, samples: &[u64]) -> Reached {
+    let reaching = Reaching::of(&assertion.table()).unwrap();
+    reaching.reached(&mut Judge::new(), samples).unwrap()
+}
+
+/// The same by the rules: each node with each position at which it is reached, once.
+struct Rules<'a> {
+    assertion: &'a Assertion,
+    asked: Asked<'a>,
+    reached: HashSet<(usize, usize)>,
+}
+
+impl Rules<'_> {
+    fn reach(&mut self, index: usize, at: usize) {
+        if !self.reached.insert((index, at)) {
+            return;
+        }
+        let node = self.assertion.node(index);
+        let (x, y) = (usize::from(node.x), usize::from(node.y));
+        match node.operator {
+            Operator::PropertyNot => self.reach(x, at),
+            Operator::PropertyAnd | Operator::PropertyOr => {
+                self.reach(x, at);
+                self.reach(y, at);
+            }
+            Operator::ClockedProperty => self.reach(y, at),
+            Operator::Implies => {
+                for end in self.asked.matches(x, at).unwrap().ends() {
+                    if end > at {
+                        self.reach(y, end - 1);
+                    }
+                }
+            }
+            Operator::Nexttime => {
+                let ticks = self.asked.positions(index, at).unwrap();
+                match self.assertion.clock(index) {
+                    None if at < self.asked.count() => self.reach(x, at + 1),
+                    Some(_) if ticks.len() > 1 => self.reach(x, ticks[1]),
+                    _ => {}
+                }
+            }
+            Operator::Until => {
+                let samples = self.asked.positions(index, at).unwrap();
+                self.until((x, y), samples);
+            }
+            _ => {}
+        }
+    }
+
+    fn until(&mut self, (p, q): (usize, usize), samples: Vec<usize>) {
+        for sample in samples {
+            self.reach(p, sample);
+            self.reach(q, sample);
+            if !self.holds(p, sample) || self.holds(q, sample) {
+                break;
+            }
+        }
+    }
+
+    fn holds(&mut self, node: usize, at: usize) -> bool {
+        self.asked.level(node, at).unwrap() >= Level::Neutral
+    }
+}
+
+fn by_rules(assertion: &Assertion, samples: &[u64]) -> HashSet<(usize, usize)> {
+    let mut rules = Rules {
+        assertion,
+        asked: Asked::new(assertion, samples, samples.len()),
+        reached: HashSet::new(),
+    };
+    rules.reach(assertion.root(), 0);
+    rules.reached
+}
+
+/// The property nodes.
+fn properties(assertion: &Assertion) -> impl Iterator<Item = (usize, Operator)> + '_ {
+    let nodes = assertion.nodes().iter().map(|node| node.operator);
+    let nodes = nodes.enumerate();
+    nodes.filter(|(_, operator)| operator.sort() == Sort::Property)
+}
+
+#[test]
+fn parts_are_reached_as_the_rules_say() {
+    let (mut inside, mut at_end, mut never) = (0, 0, 0);
+    for (assertion, samples, _) in accepted(0..8_000) {
+        let (reached, rules) = (
+            reached(&assertion, &samples),
+            by_rules(&assertion, &samples),
+        );
+        for (node, _) in properties(&assertion) {
+            let expected = (0..=samples.len()).filter(|at| rules.contains(&(node, *at)));
+            let expected: Vec<usize> = expected.collect();
+            assert_eq!(
+                reached.samples(node),
+                expected,
+                "{assertion:?} {samples:?} {node}"
+            );
+            inside += usize::from(expected.iter().any(|at| *at < samples.len()));
+            at_end += usize::from(expected.contains(&samples.len()));
+            never += usize::from(expected.is_empty());
+        }
+    }
+    assert!(
+        inside > 5_000 && at_end > 1_000 && never > 1_000,
+        "{inside} {at_end} {never}"
+    );
+}
+
+#[test]
+fn every_implication_is_asked_where_each_right_side_is_reached() {
+    let mut seen = [0; 2];
+    for (assertion, samples, verdict) in accepted(0..8_000) {
+        let rules = by_rules(&assertion, &samples);
+        let implications = properties(&assertion).filter(|(_, it)| *it == Operator::Implies);
+        let asked = implications.map(|(node, _)| {
+            let right = usize::from(assertion.node(node).y);
+            rules.iter().any(|(reached, _)| *reached == right)
+        });
+        let asked: Vec<bool> = asked.collect();
+        let reaching = Reaching::of(&assertion.table()).unwrap();
+        let judged = reaching.judged(&mut Judge::new(), &samples).unwrap();
+        assert_eq!(judged.judgement, verdict.judgement);
+        let every = !asked.contains(&false);
+        assert_eq!(judged.asked, every, "{assertion:?} {samples:?}");
+        seen[usize::from(every)] += usize::from(!asked.is_empty());
+    }
+    assert!(seen.iter().all(|count| *count > 300), "{seen:?}");
+}
+
+/// Document 02: strong and weak are tested, and every other property where one of them is reached.
+#[test]
+fn a_record_tests_an_assertion_where_it_reaches_strong_or_weak() {
+    let mut seen = [0; 2];
+    for (assertion, samples, verdict) in accepted(0..20_000) {
+        let reached = reached(&assertion, &samples);
+        let promise = |operator| matches!(operator, Operator::Strong | Operator::Weak);
+        let tested = properties(&assertion)
+            .any(|(node, operator)| promise(operator) && reached.set(node) != 0);
+        assert_eq!(
+            verdict.judgement.tested, tested,
+            "{assertion:?} {samples:?}"
+        );
+        seen[usize::from(tested)] += 1;
+    }
+    assert!(seen.iter().all(|count| *count > 300), "{seen:?}");
+}
