@@ -5,7 +5,7 @@
 //!
 //! - refusals 6, 7 and 9 take two passes over the nodes, not four, and rewriting three, not five;
 //! - the root, the samples, the start and the workspace are asked before the new table is written, not after;
-//! - the places where P fails are moved up once for all starts of `R |-> P`, not the ends of R moved down at each;
+//! - the places where P fails, and those where it is tested, are moved up once for all starts of `R |-> P`, not the ends of R moved down at each;
 //! - `##0` takes the empty matches out of its second row only where it has some, not always;
 //! - a repetition takes for granted that no match leads back, which the proved code asks of the row first;
 //! - the set of one place is read from an array, not shifted into place.

@@ -6,7 +6,8 @@ use crate::properties::leading_up;
 use crate::rewrite::Plan;
 use crate::{Row, PLACES};
 
-/// Whether the root is tested from place 0. Each property has a set, made of those below it: the places, 0 to n, from which it is tested.
+/// Whether the root is tested from place 0. Each property has a set, made of those below it: the places, 0 to n, from which it is tested. A letter with no clock
+/// has one too, the samples that it matches.
 pub fn tested(nodes: &[[u8; 4]], plan: &Plan, rows: &[Row], n: usize) -> bool {
     let row = |v: u8| &rows[plan.number(v)];
     // The samples at which the node's clock ticks, if it has one.
@@ -15,11 +16,14 @@ pub fn tested(nodes: &[[u8; 4]], plan: &Plan, rows: &[Row], n: usize) -> bool {
     for (k, &[op, x, y, _]) in nodes.iter().enumerate() {
         let at = |v: u8| sets[usize::from(v)];
         sets[k] = match op {
-            // A boolean or a sequence.
+            LETTER if plan.clock(k).is_none() => row(x)[0],
+            // A boolean or any other sequence.
             ..STRONG => continue,
             STRONG | WEAK => u64::MAX >> (63 - n),
             NOT => at(x),
             OR | AND => at(x) | at(y),
+            // Of a letter: one meeting of two sets.
+            IMPLIES if at(x) != 0 => at(x) & at(y),
             IMPLIES => implies(row(x), at(y), n),
             NEXTTIME => nexttime(at(x), ticks(k)),
             UNTIL => {
