@@ -95,17 +95,12 @@ pub fn judge(table: &[u8], samples: &[u64], workspace: &mut [u64]) -> Judgement
             tested: false,
         };
     }
+    let m = wide(table[5]);
+    let tests = tested(table, m, &clocks, &numbers, workspace, samples.len());
     Judgement {
         verdict,
         level: level_of(workspace, settled.count - 1),
-        tested: tested(
-            table,
-            wide(table[5]),
-            &clocks,
-            &numbers,
-            workspace,
-            samples.len(),
-        ),
+        tested: tests,
     }
 }
 

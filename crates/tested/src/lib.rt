@@ -172,9 +172,10 @@ fn letter_set(rows: &[u64], numbers: &[u8], clock: u8, v: Raw, op: SequenceOp) -
     ensures { λ r. ⌜ Is (r .bits) (letterMatches (now (rows .entry)) (standing (now (numbers .entry)) clock v) op) ⌝ }
 {
     match op {
-        SequenceOp::Letter(_) => word_at(rows, row_for(numbers, v.x), 0).only_if(
-            clock == UNCLOCKED,
-        ),
+        SequenceOp::Letter(_) => {
+            let free = clock == UNCLOCKED;
+            word_at(rows, row_for(numbers, v.x), 0).only_if(free)
+        }
         SequenceOp::Then(_, _) => PositionSet::empty(),
         SequenceOp::Fused(_, _) => PositionSet::empty(),
         SequenceOp::Either(_, _) => PositionSet::empty(),

@@ -12,16 +12,12 @@ laid d = d .before .before .before .before .before .before .before
 abbrev rows : tie.Else1 → tie.After-lay
 rows e = laid (e .before)
 
--- when all that the sets ask for is at hand
-module _ (c : tie.After-tested-arg) where
-  abbrev counts : tie.After-wide
-  counts = c .before .before .before
+-- when the sets are asked, the count of the nodes
+abbrev counted : tie.After-tested-arg → tie.After-wide
+counted c = c .before .before .before
 
-  abbrev levels : tie.After-level-of
-  levels = counts .before .before
-
-  abbrev accepts : tie.Else1
-  accepts = levels .before .before .before
+abbrev accepts : tie.After-tested-arg → tie.Else1
+accepts c = counted c .before .before
 
 pub judge-spec : {M : Type 1} → statement M
 judge-spec =
@@ -33,14 +29,15 @@ judge-spec =
     (λ c κs. search needs)
     (λ c. search needs)
     (λ c. judge-refused _ _ _ _ _ _ _ (laid (c .before) .lay .ensures) (c .if1 .taken))
-    (λ c. let e = c .before .before in some _ _ _ _ _ _ _ _ (rows e .lay .ensures .settles) (e .if1 .left))
-    (λ c κs. let e = c .before .before in root-there _ _ _ _ _ _ _ _ _ (rows e .lay .ensures) (e .if1 .left))
-    (λ c. let e = c .before .before .before .before in table-counted _ _ _ _ _ _ _ _ _ (rows e .lay .ensures) (e .if1 .left))
+    (λ c. let e = c .before in table-counted _ _ _ _ _ _ _ _ _ (rows e .lay .ensures) (e .if1 .left))
     (λ c κs. search needs)
     (λ c. search needs)
     (λ c. search needs)
-    (λ c κs. (tested-there _ _ _ _ _ _ _ _ _ (rows (accepts c) .lay .ensures) (accepts c .if1 .left), counts c .wide .ensures))
+    (λ c κs. (tested-there _ _ _ _ _ _ _ _ _ (rows (accepts c) .lay .ensures) (accepts c .if1 .left), counted c .wide .ensures))
+    (λ c. let e = accepts (c .before .before .before) in some _ _ _ _ _ _ _ _ (rows e .lay .ensures .settles) (e .if1 .left))
+    (λ c κs. let e = accepts (c .before .before .before) in root-there _ _ _ _ _ _ _ _ _ (rows e .lay .ensures) (e .if1 .left))
     (λ c. search needs)
     (λ c.
-    let d = c .before in
-    judge-accepted _ _ _ _ _ _ _ (rows (accepts d) .lay .ensures) (accepts d .if1 .left) _ (levels d .level-of .ensures) _ (c .tested .ensures)))
+    let tests = c .before .before .before in
+    let e = accepts (tests .before) in
+    judge-accepted _ _ _ _ _ _ _ (rows e .lay .ensures) (e .if1 .left) _ (c .level-of .ensures) _ (tests .tested .ensures)))
