@@ -8,11 +8,11 @@ use lib.Dec.{T, ltb}
 use lib.ListN.{length}
 use Rattle.telling.specs.Tells.{Tells, some, every}
 use Rattle.telling.proofs.Telling.{side, is-map, is-test, is-true, is-and, is-or, is-not, is-imp, is-and-then, is-lt, is-some, is-every}
-use Rattle.meaning.specs.Syntax.{Seq, Prop, strong, weak, neg, either, both, implies, next, until, under, Clock, free, on}
+use Rattle.meaning.specs.Syntax.{Prop, strong, weak, neg, either, both, implies, next, until, under, Clock, free, on}
 use Rattle.meaning.specs.Words.{Word, inside, word, none}
-use Rattle.meaning.specs.Meaning.{Match, counts, Second}
+use Rattle.meaning.specs.Meaning.{counts, Second}
 use Rattle.meaning.specs.Tested.{UpTo, Tested, Tests}
-use Rattle.meaning.specs.Reached.{Asks, neg-x, either-x, either-y, both-x, both-y, implies-y, next-x, next-tick, until-x, until-y, under-x, Reached, here, down, Ground, by-strong, by-weak, Direct, Guarded}
+use Rattle.meaning.specs.Reached.{AsksPart, neg-x, either-x, either-y, both-x, both-y, implies-y, next-x, next-tick, until-x, until-y, under-x, Reached, here, down, Ground, by-strong, by-weak, ReachesGround, AskedImplication, Direct, Guarded}
 use Rattle.meaning.proofs.Words.{word-out, word-inside}
 use Rattle.meaning.proofs.Eval.{matchB, is-match}
 use Rattle.meaning.proofs.Sequences.{match-shut}
@@ -72,22 +72,14 @@ module _ {A S : Type 0} (reads : A → S → Bool) where
 
   -- ---- tested is to reach a strong or a weak
 
-  -- a strong or a weak that P reaches from i
-  pub record ReachesGround (w : Word S) (κ : Clock A) (P : Prop A) (i : ℕ) : Type 0 where
-    pub clock : Clock A
-    pub part : Prop A
-    pub at : ℕ
-    pub ground : Ground part
-    pub reached : Reached reads w κ P i clock part at
-
   -- what a part reaches, the whole reaches
-  through : {w : Word S} {κ μ : Clock A} {P Q : Prop A} {i j : ℕ} → Asks reads w κ P i μ Q j → ReachesGround w μ Q j → ReachesGround w κ P i
+  through : {w : Word S} {κ μ : Clock A} {P Q : Prop A} {i j : ℕ} → AsksPart reads w κ P i μ Q j → ReachesGround reads w μ Q j → ReachesGround reads w κ P i
   through a g = record { clock = g .clock; part = g .part; at = g .at; ground = g .ground; reached = down a (g .reached) }
 
-  ground-here : {w : Word S} {κ : Clock A} {P : Prop A} {i : ℕ} → Ground P → ReachesGround w κ P i
+  ground-here : {w : Word S} {κ : Clock A} {P : Prop A} {i : ℕ} → Ground P → ReachesGround reads w κ P i
   ground-here {κ = κ} {P = P} {i = i} g = record { clock = κ; part = P; at = i; ground = g; reached = here }
 
-  tested-reaches : (w : Word S) (κ : Clock A) (P : Prop A) (i : ℕ) → Tested reads κ P w i → ReachesGround w κ P i
+  tested-reaches : (w : Word S) (κ : Clock A) (P : Prop A) (i : ℕ) → Tested reads κ P w i → ReachesGround reads w κ P i
   unfolding Tested
   tested-reaches w κ (strong r) i t = ground-here by-strong
   tested-reaches w κ (weak r) i t = ground-here by-weak
@@ -104,7 +96,7 @@ module _ {A S : Type 0} (reads : A → S → Bool) where
   tested-reaches w κ (under c P) i t = through under-x (tested-reaches w (on c) P i t)
 
   -- a part that is asked and tested makes the whole tested
-  asked-tests : {w : Word S} {κ μ : Clock A} {P Q : Prop A} {i j : ℕ} → Asks reads w κ P i μ Q j → Tested reads μ Q w j → Tested reads κ P w i
+  asked-tests : {w : Word S} {κ μ : Clock A} {P Q : Prop A} {i j : ℕ} → AsksPart reads w κ P i μ Q j → Tested reads μ Q w j → Tested reads κ P w i
   unfolding Tested
   asked-tests neg-x t = t
   asked-tests either-x t = inl t
@@ -127,7 +119,7 @@ module _ {A S : Type 0} (reads : A → S → Bool) where
   reached-tests here t = t
   reached-tests (down a r) t = asked-tests a (reached-tests r t)
 
-  pub tested-is-reached : (w : Word S) (κ : Clock A) (P : Prop A) (i : ℕ) → Tested reads κ P w i ↔ ReachesGround w κ P i
+  pub tested-is-reached : (w : Word S) (κ : Clock A) (P : Prop A) (i : ℕ) → Tested reads κ P w i ↔ ReachesGround reads w κ P i
   tested-is-reached w κ P i = (tested-reaches w κ P i, λ g. reached-tests (g .reached) (ground-tested w (g .clock) (g .at) (g .ground)))
 
   -- ---- with no `|->`, no nexttime and no until every record tests
@@ -146,19 +138,7 @@ module _ {A S : Type 0} (reads : A → S → Bool) where
 
   -- ---- where a `|->` stands on each way down, a tested record has matched one that was reached
 
-  -- a `|->` that P reaches from i: its left side matches from there, and its right side is tested from the match's last letter
-  pub record AskedImplication (w : Word S) (κ : Clock A) (P : Prop A) (i : ℕ) : Type 0 where
-    pub clock : Clock A
-    pub left : Seq A
-    pub right : Prop A
-    pub at : ℕ
-    pub reached : Reached reads w κ P i clock (implies left right) at
-    pub last : ℕ
-    pub longer : at ≤ last
-    pub matches : Match reads clock left w at (suc last)
-    pub tested : Tested reads clock right w last
-
-  further : {w : Word S} {κ μ : Clock A} {P Q : Prop A} {i j : ℕ} → Asks reads w κ P i μ Q j → AskedImplication w μ Q j → AskedImplication w κ P i
+  further : {w : Word S} {κ μ : Clock A} {P Q : Prop A} {i j : ℕ} → AsksPart reads w κ P i μ Q j → AskedImplication reads w μ Q j → AskedImplication reads w κ P i
   further a g = record {
     clock = g .clock;
     left = g .left;
@@ -171,7 +151,7 @@ module _ {A S : Type 0} (reads : A → S → Bool) where
     tested = g .tested;
   }
 
-  pub guarded-asked : (w : Word S) (κ : Clock A) (P : Prop A) (i : ℕ) → Guarded P → Tested reads κ P w i → AskedImplication w κ P i
+  pub guarded-asked : (w : Word S) (κ : Clock A) (P : Prop A) (i : ℕ) → Guarded P → Tested reads κ P w i → AskedImplication reads w κ P i
   unfolding Tested Guarded
   guarded-asked w κ (strong r) i g t = absurd g
   guarded-asked w κ (weak r) i g t = absurd g

@@ -3,13 +3,15 @@
 use mathlib.Core.Bool.{Bool}
 use mathlib.Core.Path.{_≡_, refl}
 use mathlib.Core.Logic.{_⊎_, inl, inr, _↔_}
-use mathlib.Core.List.{List, [], _++_}
+use mathlib.Core.List.{List, [], _∷_, _++_}
 use Prim.Native.Nat.{ℕ, zero, _≤_, _<_}
 use lib.Dec.{T}
 use Rattle.telling.specs.Tells.{Tells}
-use Rattle.meaning.specs.Syntax.{Seq, Prop, Clock, free}
-use Rattle.meaning.specs.Words.{Word, Tail, tops, bots, top, bot, word, suffix}
+use Rattle.meaning.specs.Syntax.{Seq, Prop, until, Clock, free}
+use Rattle.meaning.specs.Words.{Word, Tail, none, tops, bots, top, bot, word, suffix}
 use Rattle.meaning.specs.Meaning.{Match, Sat, Accepted, Neutral, Weakly, Strongly, Level, level3, level2, level1, level0}
+use Rattle.meaning.specs.Tested.{Tested, Tests}
+use Rattle.meaning.specs.Reached.{Ground, ReachesGround, AskedImplication, Direct, Guarded}
 use Rattle.meaning.specs.Levels.{levelOf}
 use Rattle.meaning.specs.Rewriting.{rewS, rewP}
 use Rattle.meaning.proofs.Cells.{alive}
@@ -18,6 +20,7 @@ use Rattle.meaning.proofs.Order.{Below}
 use Rattle.meaning.proofs.Tails as Tails
 use Rattle.meaning.proofs.Shift as Shift
 use Rattle.meaning.proofs.Closed as Closed
+use Rattle.meaning.proofs.Testing as Testing
 use Rattle.meaning.proofs.Leveling as Leveling
 use Rattle.meaning.proofs.Rewriting as Rewriting
 
@@ -92,3 +95,21 @@ module _ {A S : Type 0} (reads : A → S → Bool) where
     empty-open (level2 s h) = inr refl
     empty-open (level1 s h) = inl refl
     empty-open (level0 h) = absurd (h (Tails.ends reads free P accepted (word [] tops) zero .0 (λ p u. tt)))
+
+  -- ---- tested
+
+  -- tested is to reach, from where it is asked, some strong or weak
+  pub tested-is-reached : (w : Word S) (κ : Clock A) (P : Prop A) (i : ℕ) → Tested reads κ P w i ↔ ReachesGround reads w κ P i
+  tested-is-reached = Testing.tested-is-reached reads
+
+  -- with no `|->`, no nexttime and no until every record tests
+  pub direct-tested : (P : Prop A) → Direct P → (xs : List S) → Tests reads xs P
+  direct-tested P d xs = Testing.direct-tested reads (word xs none) free P zero d
+
+  -- where a `|->` stands on each way down, a record that tests has matched one that was reached, with its right side tested from the match's last letter
+  pub guarded-asked : (P : Prop A) → Guarded P → (xs : List S) → Tests reads xs P → AskedImplication reads (word xs none) free P zero
+  guarded-asked P g xs t = Testing.guarded-asked reads (word xs none) free P zero g t
+
+  -- by the letter of the rule `P until strong(R)` is tested by every record with a sample
+  pub until-ground-tested : (P Q : Prop A) → Ground Q → (x : S) (xs : List S) → Tests reads (x ∷ xs) (until P Q)
+  until-ground-tested = Testing.until-ground-tested reads

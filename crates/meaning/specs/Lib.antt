@@ -1,4 +1,4 @@
--- To be believed, in this order: what an assertion is, what a word is, and what the one says of the other.
+-- To be believed, in this order: what an assertion is, what a word is, what the one says of the other, and whether the other tests it.
 pub mod Syntax
 pub mod Words
 pub mod Meaning
