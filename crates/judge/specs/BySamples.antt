@@ -1,4 +1,4 @@
--- What is said of a table of version 1, as document 01 has it, over samples and signals: Rows.antt and Judges.antt with `signal` for `reading` and no pairs.
+-- What is said of a table of version 1 over samples and signals, with no pairs: Rows.antt and Judges.antt with `signal` for `reading`.
 -- `proofs/VersionOne.antt` shows it of every accepted call. Assumes nothing.
 use mathlib.Core.Path.{_≡_}
 use mathlib.Core.List.{List}
