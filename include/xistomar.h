@@ -54,8 +54,8 @@ typedef struct {
     size_t count;
 } xistomar_rewriting;
 
-/* The level, 0 to 3, and whether the record put the assertion to the test: from the first sample on some strong or weak was reached, and each |-> on the way had its
- * left side matched where it was asked. */
+/* The level, 0 to 3, and whether the record put the assertion to the test: from the first sample on some strong or weak was reached, and each |-> on the way there
+ * had its left side matched where it was asked. A |-> that is not on the way there may never have been asked. */
 typedef struct {
     xistomar_verdict verdict;
     uint8_t level;

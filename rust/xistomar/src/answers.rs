@@ -61,7 +61,8 @@ pub struct Judgement {
     /// The level at which the assertion holds.
     pub level: Level,
     /// Whether the record put the assertion to the test: from the first sample on some strong or
-    /// weak was reached, and each `|->` on the way had its left side matched where it was asked.
+    /// weak was reached, and each `|->` on the way there had its left side matched where it was
+    /// asked. A `|->` that is not on the way there may never have been asked.
     pub tested: bool,
 }
 
