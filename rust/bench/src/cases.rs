@@ -159,8 +159,8 @@ fn fused_chain() -> Case {
     case("fused-chain", &t, all_set())
 }
 
-/// As many `|->` as there can be, each over one letter: every start of every one has its last letters to hold against three sets for the level, and against
-/// one more for tested, whatever they are.
+/// As many `|->` as there can be, each over one letter: every start of every one has its last letters to hold against three sets, whatever they are. For
+/// tested the letter's own set is enough.
 fn implies_chain() -> Case {
     let mut t = Nodes::default();
     let a = t.signal(0);
