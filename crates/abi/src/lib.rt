@@ -1,6 +1,6 @@
 // The entry points under names that C and Rust call. Each calls the proved function of its own crate, and promises what that function promises.
-use judge::Judgement;
 use judge::MatchEnds;
+use judgement::Judgement;
 use record::Reading;
 use refusal::Verdict;
 use rewrite::Rewriting;
@@ -8,6 +8,7 @@ ghost use Rattle.table.specs.Check.{Checks};
 ghost use Rattle.record.specs.Record.{Reads};
 ghost use Rattle.rewrite.specs.Rewrites.{Rewrites};
 ghost use Rattle.judge.specs.Judges.{Judges, EndsMatches};
+ghost use Rattle.plain.specs.Judges.{PlainJudges};
 ghost use Rattle.line.specs.Program.{Says};
 
 // Checking a table.
@@ -40,6 +41,14 @@ pub extern "C" fn xistomar_judge(table: &[u8], samples: &[u64], workspace: &mut 
     ensures { λ r. ⌜ Judges (now (table .entry)) (now (samples .entry)) (now (workspace .entry)) r (now (workspace .exit)) ⌝ }
 {
     judge::judge(table, samples, workspace)
+}
+
+// The plain judge.
+#[no_mangle]
+pub extern "C" fn xistomar_plain_judge(table: &[u8], samples: &[u64]) -> Judgement
+    ensures { λ r. ⌜ PlainJudges (now (table .entry)) (now (samples .entry)) r ⌝ }
+{
+    plain::plain_judge(table, samples)
 }
 
 // Match ends.

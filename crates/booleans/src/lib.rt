@@ -1,15 +1,13 @@
 // A boolean's word: the samples that satisfy it.
 use cells::all_samples;
-use cells::word_at;
 use nodes::BooleanOp;
 use positions::PositionSet;
-ghost use mathlib.Core.Bool.{not, _&&_};
-ghost use Prim.Native.Nat.{_≤_, _<_};
-ghost use lib.Dec.{ltb};
-ghost use lib.ListN.{length};
+ghost use mathlib.Core.Path.{_≡_};
+ghost use Prim.Native.Nat.{_*_, _≤_, _<_};
+ghost use lib.ListN.{length, getD};
 ghost use Rattle.positions.specs.Member.{Is};
-ghost use Rattle.cells.specs.Shares.{longest, bitIn, HasRow};
-ghost use Rattle.cells.specs.Bits.{signalBit, risenBit, fallenBit, booleanBit};
+ghost use Rattle.cells.specs.Shares.{longest, HasWords};
+ghost use Rattle.cells.specs.Bits.{signalBit, risenBit, fallenBit, operandBit, valueBit};
 ghost use Rattle.cells.specs.Ready.{readyBoolean};
 
 // The samples that have the signal s.
@@ -46,24 +44,27 @@ fn fallen_set(samples: &[u64], s: usize) -> PositionSet
     all_samples(samples.len()).without(high).common(high.up())
 }
 
-// The samples that do not satisfy row a.
-fn not_set(rows: &[u64], a: usize, n: usize) -> PositionSet
-    requires { ⌜ HasRow (length (now rows)) a × (n ≤ longest) ⌝ }
-    ensures { λ r. ⌜ Is (r .bits) (λ k. ltb k n && not (bitIn (now (rows .entry)) a 0 k)) ⌝ }
+// The samples that satisfy boolean a: the first of the `stride` words that each node has.
+fn set_of(words: &[u64], stride: usize, a: usize) -> PositionSet
+    requires { ⌜ (1 ≤ stride) × HasWords (length (now words)) stride a ⌝ }
+    ensures { λ r. ⌜ r .bits ≡ getD (now (words .entry)) (stride * a) 0 ⌝ }
 {
-    all_samples(n).without(word_at(rows, a, 0))
+    PositionSet {
+        bits: words[stride * a],
+    }
 }
 
-pub fn boolean_set(rows: &[u64], samples: &[u64], op: BooleanOp) -> PositionSet
-    requires { ⌜ readyBoolean (length (now rows)) op × (length (now samples) ≤ longest) ⌝ }
-    ensures { λ r. ⌜ Is (r .bits) (booleanBit (now (rows .entry)) (now (samples .entry)) op) ⌝ }
+// The samples that satisfy a boolean, from the words of the booleans below it.
+pub fn boolean_set(words: &[u64], stride: usize, samples: &[u64], op: BooleanOp) -> PositionSet
+    requires { ⌜ (1 ≤ stride) × readyBoolean (length (now words)) stride op × (length (now samples) ≤ longest) ⌝ }
+    ensures { λ r. ⌜ Is (r .bits) (valueBit (operandBit (now (words .entry)) stride) (now (samples .entry)) op) ⌝ }
 {
     match op {
         BooleanOp::Constant(v) => all_samples(samples.len()).only_if(v == 1),
         BooleanOp::Signal(s) => signal_set(samples, s),
-        BooleanOp::Not(a) => not_set(rows, a, samples.len()),
-        BooleanOp::And(a, b) => word_at(rows, a, 0).common(word_at(rows, b, 0)),
-        BooleanOp::Or(a, b) => word_at(rows, a, 0).joined(word_at(rows, b, 0)),
+        BooleanOp::Not(a) => all_samples(samples.len()).without(set_of(words, stride, a)),
+        BooleanOp::And(a, b) => set_of(words, stride, a).common(set_of(words, stride, b)),
+        BooleanOp::Or(a, b) => set_of(words, stride, a).joined(set_of(words, stride, b)),
         BooleanOp::Risen(s) => risen_set(samples, s),
         BooleanOp::Fallen(s) => fallen_set(samples, s),
     }

@@ -1,10 +1,12 @@
-// The cases of the judge and of match ends: a table, samples, and the words that are lent. A function that answers a bool answers whether the line is a case.
+// The cases of both judges and of match ends: a table, samples, and for the judge and match ends the words that are lent. A function that answers a bool answers whether the line is a case.
 use casetext::answers;
 use casetext::lists;
 use casetext::shares;
 use casetext::text;
 use judge::judge;
 use judge::match_ends;
+use plain::plain_judge;
+use refusal::Verdict;
 
 // What is asked: the judge, or the match ends from a start.
 enum Question {
@@ -32,6 +34,12 @@ fn call(head: &[u8], table: &[u8], samples: &[u64], short: bool) -> bool {
     let start = text::after(head, b"ends ");
     if start > 0 {
         return begin(&head[start..], table, samples, short);
+    }
+    let label = text::after(head, b"plain ");
+    if label > 0 {
+        let got = plain_judge(table, samples);
+        answers::plain(&head[label..], got.verdict, got.level.number, got.tested);
+        return true;
     }
     false
 }
@@ -93,10 +101,32 @@ fn ask(
                 words,
                 short,
             );
+            beside(
+                label,
+                table,
+                samples,
+                got.verdict,
+                got.level.number,
+                got.tested,
+            );
         }
         Question::Ends(start) => {
             let got = match_ends(table, samples, start, words);
             answers::ends(label, got.verdict, got.mask.bits, got.top, words, short);
         }
+    }
+}
+
+// Where the judge accepts, the plain judge has to say the same. An answer of it that differs is printed on a line of its own, so that it is seen.
+fn beside(label: &[u8], table: &[u8], samples: &[u64], v: Verdict, level: u8, tested: bool) {
+    if !answers::accepted(v) {
+        return;
+    }
+    let got = plain_judge(table, samples);
+    let same = answers::accepted(got.verdict)
+        & (got.level.number == level)
+        & (got.tested == tested);
+    if !same {
+        answers::plain(label, got.verdict, got.level.number, got.tested);
     }
 }

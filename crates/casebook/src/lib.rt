@@ -5,6 +5,7 @@
 //     read K LABEL: 53 56 57 01 00 00
 //     rewrite K LABEL: 53 56 54 01 00 02 01 00*3 10 00*3
 //     judge W LABEL: 53 56 54 01 00 03 01 00*3 10 00*3 20 01 00*2 / 1 5 2*3
+//     plain LABEL: 53 56 54 01 00 03 01 00*3 10 00*3 20 01 00*2 / 1 5 2*3
 //     ends START W LABEL: 53 56 54 01 00 02 01 00*3 10 00*3 / 1 1 2
 //     program LABEL: 53 56 54 01 00 03 01 00*3 10 00*3 20 01 00*2 53 56 57 01 00 00
 //
@@ -12,9 +13,10 @@
 // are lent to `read`, and K bytes, 500 at most and the one at place i holding 128 + i % 127, to `rewrite`. The bytes of `program` are its whole input, and the
 // line that it answers is printed.
 //
-// The samples of `judge` and `ends` stand after a slash, 100 at most: each has 1 to 16 hexadecimal digits, and `*N` repeats it. W words, 7,865 at most (120
-// shares of 65, and one share more) and the one at place i holding 0xE700000000000000 + i, are lent. The match ends are one number: bit k is end k. START is a
-// decimal number.
+// The samples of `judge`, `plain` and `ends` stand after a slash, 100 at most: each has 1 to 16 hexadecimal digits, and `*N` repeats it. To `judge` and `ends` W
+// words, 7,865 at most (120 shares of 65, and one share more) and the one at place i holding 0xE700000000000000 + i, are lent. The match ends are one number: bit k
+// is end k. START is a decimal number. `plain` asks the plain judge, to which nothing is lent. It is also asked of each case of `judge` that is accepted, and where
+// it says anything else, that is printed on one more line.
 //
 // All that was lent is printed, in full or in short. In full, of the bytes `kept*N` is N that hold what they held, 3(1,0) a node with its operator, x and y,
 // and two digits any other byte. The words of `judge` and `ends` are printed share by share: `kept*N` is N words of shares that hold what they held, and 1(0:2

@@ -59,12 +59,23 @@ pub fn record(label: &[u8], v: Verdict, count: usize, words: &[u64]) {
 
 // What the judge answered, and the words that were lent.
 pub fn judgement(label: &[u8], v: Verdict, level: u8, tested: bool, words: &[u64], short: bool) {
+    put_level(label, v, level, tested);
+    put_lent(words, short);
+}
+
+// What the plain judge answered, to which nothing is lent.
+pub fn plain(label: &[u8], v: Verdict, level: u8, tested: bool) {
+    put_level(label, v, level, tested);
+    put(b"\n");
+}
+
+// What either judge says.
+fn put_level(label: &[u8], v: Verdict, level: u8, tested: bool) {
     put_judged(label, v);
     put(b"level ");
     put_number(level as u64);
     put(b" tested ");
     put_yes(tested);
-    put_lent(words, short);
 }
 
 // What match ends answered, and the words that were lent.

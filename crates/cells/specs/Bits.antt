@@ -1,9 +1,9 @@
 -- The rules of the rows, bit by bit: document 01's "Rows left in the workspace", for each operator, from the rows of its operands. n is the number of
--- samples, and a bit that no rule sets is 0. `judge/proofs` shows that each rule is what the published meaning says. A rewritten table has no clock node:
+-- samples, and a bit that no rule sets is 0. `rowmeaning/proofs` shows that each rule is what the published meaning says. A rewritten table has no clock node:
 -- of one no bit is set. Assumes nothing.
 use mathlib.Core.Bool.{Bool, true, false, not, _||_, _&&_}
 use mathlib.Core.List.{List, _∷_}
-use Prim.Native.Nat.{ℕ, zero, suc, _-_}
+use Prim.Native.Nat.{ℕ, zero, suc, _*_, _-_}
 use lib.Dec.{eqb, leb, ltb}
 use lib.ListN.{length, getD}
 use Rattle.telling.specs.Tells.{some}
@@ -15,7 +15,7 @@ use Rattle.nodes.specs.declared.SequenceOp.{SequenceOp}
 use Rattle.nodes.specs.declared.SequenceOp.the-variants.{Letter, Then, Fused, Either, Empty, Repeat, Clocked}
 use Rattle.nodes.specs.declared.PropertyOp.{PropertyOp}
 use Rattle.nodes.specs.declared.PropertyOp.the-variants.{Strong, Weak, Negated, AnyOf, BothOf, Implies, Next, Until, Ticked}
-use Rattle.cells.specs.Shares.{topWord, wordOf, bitIn}
+use Rattle.cells.specs.Shares.{share, topWord, wordOf, bitIn}
 
 -- ---- boolean: word 0 has bit i where sample i satisfies it
 
@@ -34,14 +34,22 @@ risenBit xs s i = ltb i (length xs) && (has (getD xs i 0) s && not (has (sampleB
 abbrev pub fallenBit : List ℕ → ℕ → ℕ → Bool
 fallenBit xs s i = ltb i (length xs) && (not (has (getD xs i 0) s) && has (sampleBefore xs i) s)
 
+-- by what the operands have: `at a i` is "sample i satisfies boolean a"
+abbrev pub valueBit : (ℕ → ℕ → Bool) → List ℕ → BooleanOp → ℕ → Bool
+valueBit at xs (Constant v) i = ltb i (length xs) && eqb v 1
+valueBit at xs (Signal s) i = signalBit xs s i
+valueBit at xs (Not a) i = ltb i (length xs) && not (at a i)
+valueBit at xs (And a b) i = at a i && at b i
+valueBit at xs (Or a b) i = at a i || at b i
+valueBit at xs (Risen s) i = risenBit xs s i
+valueBit at xs (Fallen s) i = fallenBit xs s i
+
+-- what boolean a has, where its samples stand in the first of the `stride` words of its node
+abbrev pub operandBit : List ℕ → ℕ → ℕ → ℕ → Bool
+operandBit words stride a = has (getD words (stride * a) 0)
+
 abbrev pub booleanBit : List ℕ → List ℕ → BooleanOp → ℕ → Bool
-booleanBit rows xs (Constant v) i = ltb i (length xs) && eqb v 1
-booleanBit rows xs (Signal s) i = signalBit xs s i
-booleanBit rows xs (Not a) i = ltb i (length xs) && not (bitIn rows a 0 i)
-booleanBit rows xs (And a b) i = bitIn rows a 0 i && bitIn rows b 0 i
-booleanBit rows xs (Or a b) i = bitIn rows a 0 i || bitIn rows b 0 i
-booleanBit rows xs (Risen s) i = risenBit xs s i
-booleanBit rows xs (Fallen s) i = fallenBit xs s i
+booleanBit rows xs op i = valueBit (operandBit rows share) xs op i
 
 -- ---- sequence: word i, for i from 0 to n, has bit j where samples i to j - 1 match
 
@@ -101,6 +109,10 @@ topBit rows n op i = leb i n && (goesOn rows op (sequenceBit rows n op i) i || s
 abbrev pub starts : List ℕ → ℕ → ℕ → ℕ → Bool
 starts rows n a i = leb i n && some (longer rows a i) 0 64
 
+-- some match of row a from i, not empty, has its last letter where P holds
+abbrev pub startsInto : List ℕ → ℕ → ℕ → (ℕ → Bool) → ℕ → Bool
+startsInto rows n a P i = leb i n && some (λ l. lastLetter rows a i l && P l) 0 64
+
 -- each match of row a from i that is not empty has its last letter where P holds
 abbrev pub follows : List ℕ → ℕ → ℕ → (ℕ → Bool) → ℕ → Bool
 follows rows n a P i = leb i n && not (some (λ l. lastLetter rows a i l && not (P l)) 0 64)
@@ -119,6 +131,24 @@ untilLast none p q = true
 untilLast tops p q = p || q
 untilLast bots p q = p || q
 
+-- the rules by what an operand tells: `P t i` is "suffix i satisfies P, with the tail t"
+abbrev pub negatedBit : ℕ → (Tail → ℕ → Bool) → Tail → ℕ → Bool
+negatedBit n P t i = leb i n && not (P (other t) i)
+
+abbrev pub impliesBit : List ℕ → ℕ → ℕ → (Tail → ℕ → Bool) → Tail → ℕ → Bool
+impliesBit rows n a P none i = follows rows n a (P none) i
+impliesBit rows n a P tops i = follows rows n a (P tops) i
+impliesBit rows n a P bots i = follows rows n a (P bots) i && not (bitIn rows a topWord i && not (P bots n))
+
+abbrev pub nextBit : ℕ → (Tail → ℕ → Bool) → Tail → ℕ → Bool
+nextBit n P none i = P none (suc i) || eqb i n
+nextBit n P tops i = P tops (suc i) || (P tops i && leb n i)
+nextBit n P bots i = P bots (suc i) || (P bots i && leb n i)
+
+-- what row p tells
+abbrev pub toldIn : List ℕ → ℕ → Tail → ℕ → Bool
+toldIn rows p t = bitIn rows p (wordOf t)
+
 abbrev pub propertyBit : List ℕ → ℕ → PropertyOp → Tail → ℕ → Bool
 propertyBit rows n (Strong a) none i = starts rows n a i
 propertyBit rows n (Strong a) tops i = starts rows n a i || bitIn rows a topWord i
@@ -126,15 +156,10 @@ propertyBit rows n (Strong a) bots i = starts rows n a i
 propertyBit rows n (Weak a) none i = (starts rows n a i || bitIn rows a topWord i) || eqb i n
 propertyBit rows n (Weak a) tops i = starts rows n a i || bitIn rows a topWord i
 propertyBit rows n (Weak a) bots i = starts rows n a i
-propertyBit rows n (Negated p) t i = leb i n && not (bitIn rows p (wordOf (other t)) i)
-propertyBit rows n (AnyOf p q) t i = bitIn rows p (wordOf t) i || bitIn rows q (wordOf t) i
-propertyBit rows n (BothOf p q) t i = bitIn rows p (wordOf t) i && bitIn rows q (wordOf t) i
-propertyBit rows n (Implies a p) none i = follows rows n a (bitIn rows p 0) i
-propertyBit rows n (Implies a p) tops i = follows rows n a (bitIn rows p 1) i
-propertyBit rows n (Implies a p) bots i = follows rows n a (bitIn rows p 2) i && not (bitIn rows a topWord i && not (bitIn rows p 2 n))
-propertyBit rows n (Next p) none i = bitIn rows p 0 (suc i) || eqb i n
-propertyBit rows n (Next p) tops i = bitIn rows p 1 (suc i) || (bitIn rows p 1 i && leb n i)
-propertyBit rows n (Next p) bots i = bitIn rows p 2 (suc i) || (bitIn rows p 2 i && leb n i)
-propertyBit rows n (Until p q) t i =
-    untilBit (bitIn rows p (wordOf t)) (bitIn rows q (wordOf t)) (untilLast t (bitIn rows p (wordOf t) n) (bitIn rows q (wordOf t) n)) n i
+propertyBit rows n (Negated p) t i = negatedBit n (toldIn rows p) t i
+propertyBit rows n (AnyOf p q) t i = toldIn rows p t i || toldIn rows q t i
+propertyBit rows n (BothOf p q) t i = toldIn rows p t i && toldIn rows q t i
+propertyBit rows n (Implies a p) t i = impliesBit rows n a (toldIn rows p) t i
+propertyBit rows n (Next p) t i = nextBit n (toldIn rows p) t i
+propertyBit rows n (Until p q) t i = untilBit (toldIn rows p t) (toldIn rows q t) (untilLast t (toldIn rows p t n) (toldIn rows q t n)) n i
 propertyBit rows n (Ticked c p) t i = false

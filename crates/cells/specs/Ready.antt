@@ -6,16 +6,17 @@ use Rattle.nodes.specs.declared.SequenceOp.{SequenceOp}
 use Rattle.nodes.specs.declared.SequenceOp.the-variants.{Letter, Then, Fused, Either, Empty, Repeat, Clocked}
 use Rattle.nodes.specs.declared.PropertyOp.{PropertyOp}
 use Rattle.nodes.specs.declared.PropertyOp.the-variants.{Strong, Weak, Negated, AnyOf, BothOf, Implies, Next, Until, Ticked}
-use Rattle.cells.specs.Shares.{HasRow}
+use Rattle.cells.specs.Shares.{HasWords, HasRow}
 
-abbrev pub readyBoolean : ℕ → BooleanOp → Type 0
-readyBoolean w (Constant v) = Unit {0}
-readyBoolean w (Signal s) = s < 64
-readyBoolean w (Not a) = HasRow w a
-readyBoolean w (And a b) = HasRow w a × HasRow w b
-readyBoolean w (Or a b) = HasRow w a × HasRow w b
-readyBoolean w (Risen s) = s < 64
-readyBoolean w (Fallen s) = s < 64
+-- of a boolean their words, `stride` a node
+abbrev pub readyBoolean : ℕ → ℕ → BooleanOp → Type 0
+readyBoolean w stride (Constant v) = Unit {0}
+readyBoolean w stride (Signal s) = s < 64
+readyBoolean w stride (Not a) = HasWords w stride a
+readyBoolean w stride (And a b) = HasWords w stride a × HasWords w stride b
+readyBoolean w stride (Or a b) = HasWords w stride a × HasWords w stride b
+readyBoolean w stride (Risen s) = s < 64
+readyBoolean w stride (Fallen s) = s < 64
 
 abbrev pub readySequence : ℕ → SequenceOp → Type 0
 readySequence w (Letter b) = HasRow w b

@@ -32,6 +32,10 @@ wordIn rows a i = getD rows (share * a + i) 0
 abbrev pub bitIn : List ℕ → ℕ → ℕ → ℕ → Bool
 bitIn rows a i k = has (wordIn rows a i) k
 
+-- the words of node a lie within the first w, where each node has `stride`
+abbrev pub HasWords : ℕ → ℕ → ℕ → Type 0
+HasWords w stride a = stride * a + stride ≤ w
+
 -- row a lies within the first w words
 abbrev pub HasRow : ℕ → ℕ → Type 0
-HasRow w a = share * a + share ≤ w
+HasRow w a = HasWords w share a

@@ -4,9 +4,9 @@ ghost use mathlib.Core.Path.{_≡_};
 ghost use Prim.Native.Nat.{_+_, _≤_, _<_};
 ghost use lib.Dec.{ltb};
 ghost use lib.ListN.{length};
-ghost use Rattle.positions.specs.Member.{Is};
+ghost use Rattle.positions.specs.Member.{has, Is};
 ghost use Rattle.cells.specs.Shares.{share, longest, wordIn, HasRow};
-ghost use Rattle.cells.specs.Bits.{longer, lastLetter, starts};
+ghost use Rattle.cells.specs.Bits.{longer, lastLetter, starts, startsInto};
 ghost use Rattle.cells.specs.Stored.{None, Stored};
 
 // The words that a node owns.
@@ -52,6 +52,20 @@ pub fn starts_of(rows: &[u64], a: usize, n: usize) -> PositionSet
     let mut i: usize = 0;
     while i <= n {
         out = out.with_if(i, !longer_ends(rows, a, i).is_empty());
+        i += 1;
+    }
+    out
+}
+
+// The starts, up to n, of the matches of row a that are not empty and have their last letter in the set.
+pub fn starts_into(rows: &[u64], a: usize, n: usize, p: PositionSet) -> PositionSet
+    requires { ⌜ HasRow (length (now rows)) a × (n ≤ longest) ⌝ }
+    ensures { λ r. ⌜ Is (r .bits) (startsInto (now (rows .entry)) n a (has (p .bits))) ⌝ }
+{
+    let mut out = PositionSet::empty();
+    let mut i: usize = 0;
+    while i <= n {
+        out = out.with_if(i, last_letters(rows, a, i).meets(p));
         i += 1;
     }
     out

@@ -20,8 +20,8 @@ use Rattle.meaning.specs.Syntax.{Seq, Prop, free}
 use Rattle.meaning.specs.Words.{Tail, none, tops, bots, word}
 use Rattle.meaning.specs.Meaning.{Sat, Accepted, Level, Ends}
 use Rattle.meaning.specs.Tested.{Tests}
-use Rattle.meaning.specs.Pairs.{Atom, Pair, reading, pairsAfter, pairs}
-use Rattle.meaning.proofs.Pairing.{length-pairs, pairs-append}
+use Rattle.meaning.specs.Pairs.{Atom, reading, pairsAfter, pairs}
+use Rattle.meaning.proofs.Pairing.{length-pairs}
 use Rattle.meaning.specs.Rewriting.{rewS, rewP}
 use Rattle.meaning.proofs.Theorems as Meaning
 use Rattle.nodes.specs.Operators.{sequence, property}
@@ -29,7 +29,8 @@ use Rattle.nodes.specs.Nodes.{root}
 use Rattle.nodes.specs.NodeClock.{Ref}
 use Rattle.table.specs.Trees.{RootS, RootP}
 use Rattle.table.specs.Check as Check
-use Rattle.table.proofs.Reading.{uniqueS, uniqueP}
+use Rattle.table.specs.Check.{Checks}
+use Rattle.table.proofs.Reading.{uniqueS}
 use Rattle.table.proofs.Theorems.{accepted-root}
 use Rattle.table.proofs.Checking.{sound, checks-given}
 use Rattle.table.proofs.Standing.{sequence-in}
@@ -40,14 +41,17 @@ use Rattle.numbers.specs.Numbers.{newCount}
 use Rattle.writing.specs.Tables.{newTable}
 use Rattle.rewrite.specs.Rewrites.{tooMany}
 use Rattle.cells.specs.Shares.{share, longest, topWord, wordIn, bitIn, wordOf}
-use Rattle.judge.specs.declared.Judgement.{Judgement}
+use Rattle.judgement.specs.declared.Judgement.{Judgement}
 use Rattle.judge.specs.declared.MatchEnds.{MatchEnds}
-use Rattle.judge.specs.Rows.{Onward, Filled}
-use Rattle.settling.specs.Refusals.{wrongRoot, judgeRefusals, endsRefusals}
+use Rattle.rowmeaning.specs.Rows.{Onward}
+use Rattle.rowmeaning.proofs.Stepping.{ends-inside}
+use Rattle.judge.specs.Rows.{Filled}
+use Rattle.judgement.specs.Refusals.{wrongRoot}
+use Rattle.settling.specs.Refusals.{judgeRefusals, endsRefusals}
 use Rattle.judge.specs.Judges.{Judges, EndsMatches}
 use Rattle.settling.proofs.Passing.{judgeRest, endsRest, judge-passes, ends-passes, own-parts, table-checks, same-clocks, new-keeps, new-accepted, count-is-new, few-nodes}
-use Rattle.judge.proofs.Stepping.{ends-inside}
-use Rattle.judge.proofs.Unique.{judge-singles, ends-singles}
+use Rattle.judgement.proofs.Lasting.{level-is, tested-is, no-other-level, meant-held-stays, meant-broken-stays}
+use Rattle.judge.proofs.Unique.{judge-singles, ends-singles, meant}
 
 -- ---- demand 1: bad input is refused with exactly the page's number, and nothing lent is changed
 
@@ -99,19 +103,22 @@ module _ (s xs d : List ℕ) (r : Judgement) (d′ : List ℕ) (j : Judges s xs 
   passes : NotGiven (Check.refusals s ++ (wrongRoot s sequence ∷ tooMany s ∷ judgeRest s (length xs) (length d)))
   passes = judge-passes s (length xs) (length d) (r .verdict) z (j .answer)
 
+  pub table-accepted : Checks s accepted
+  table-accepted = table-checks s (wrongRoot s sequence) (judgeRest s (length xs) (length d)) passes
+
   root-accepted : (P : Prop Atom) → RootP s P → Accepted reading free P
-  root-accepted P a = accepted-root s accepted (table-checks s (wrongRoot s sequence) (judgeRest s (length xs) (length d)) passes) refl P a
+  root-accepted P a = accepted-root s accepted table-accepted refl P a
 
   -- the level of the property at the root, clocks and all, and no other number
   pub level-meant : (P : Prop Atom) → RootP s P → Level reading P (pairs xs) (r .level .number)
-  level-meant P a = let (Q, b, l) = j .accepted z .level in subst (λ (P : Prop Atom). Level reading P (pairs xs) (r .level .number)) (uniqueP b a) l
+  level-meant P a = level-is s xs r (meant s xs d r d′ (j .accepted z)) P a
 
   pub level-only : (P : Prop Atom) → RootP s P → (m : ℕ) → Level reading P (pairs xs) m → r .level .number ≡ m
-  level-only P a m l = Meaning.level-unique reading P (root-accepted P a) (pairs xs) (level-meant P a) l
+  level-only P a m l = no-other-level s xs r (meant s xs d r d′ (j .accepted z)) P a table-accepted m l
 
   -- the flag is yes exactly if the samples test that property
   pub tested-meant : (P : Prop Atom) → RootP s P → Tells (r .tested) (Tests reading (pairs xs) P)
-  tested-meant P a = let (Q, b, t) = j .accepted z .tested in subst (λ (P : Prop Atom). Tells (r .tested) (Tests reading (pairs xs) P)) (uniqueP b a) t
+  tested-meant P a = tested-is s xs r (meant s xs d r d′ (j .accepted z)) P a
 
   module _ (clock : ℕ → Ref) (right : Clocks s clock) where
     same : (other : ℕ → Ref) → Clocks s other → other ≡ clock
@@ -126,10 +133,10 @@ module _ (s xs d : List ℕ) (start : ℕ) (r : MatchEnds) (d′ : List ℕ) (j 
   ends-pass = ends-passes s (length xs) start (length d) (r .verdict) z (j .answer)
 
   -- the ends of the matches of the sequence at the root, clocks and all, and whether it matches on into letters ⊤
-  pub ends-meant : (q : Seq Atom) → RootS s q → Ends reading q (pairs xs) start (r .mask .bits) × Tells (r .top) (Onward reading (pairs xs) q start)
+  pub ends-meant : (q : Seq Atom) → RootS s q → Ends reading q (pairs xs) start (r .mask .bits) × Tells (r .top) (Onward reading (pairs xs) free q start)
   ends-meant q a =
       let (p, b, m, t) = j .accepted z .ends in
-      subst (λ (q : Seq Atom). Ends reading q (pairs xs) start (r .mask .bits) × Tells (r .top) (Onward reading (pairs xs) q start)) (uniqueS b a) (m, t)
+      subst (λ (q : Seq Atom). Ends reading q (pairs xs) start (r .mask .bits) × Tells (r .top) (Onward reading (pairs xs) free q start)) (uniqueS b a) (m, t)
 
   module _ (clock : ℕ → Ref) (right : Clocks s clock) where
     -- the rows, every bit
@@ -155,7 +162,7 @@ module _ (s xs d : List ℕ) (start : ℕ) (r : MatchEnds) (d′ : List ℕ) (j 
         let same = keeps .matches q (rewS free q) a b in
         subst (λ (n : ℕ). (r .mask .bits ≡ wordIn d′ (n - 1) start) × (r .top ≡ bitIn d′ (n - 1) topWord start)) (count-is-new s x rest ends-pass clock right) (
           ext (r .mask .bits) (wordIn d′ (root (newTable s clock)) start)
-              (λ i. same-test (record { to = λ h. same (word (pairs xs) none) start i .0 (m i .0 h .1); from = λ h. let g = same (word (pairs xs) none) start i .1 h in m i .1 (ends-inside reading (pairs xs) q start i within g, g) }) (row .ends start within i)),
+              (λ i. same-test (record { to = λ h. same (word (pairs xs) none) start i .0 (m i .0 h .1); from = λ h. let g = same (word (pairs xs) none) start i .1 h in m i .1 (ends-inside reading (pairs xs) free q start i within g, g) }) (row .ends start within i)),
           same-test (is-map t (λ h. (h .0, h .1, same (word (pairs xs) tops) start (h .0) .0 (h .2))) (λ h. (h .0, h .1, same (word (pairs xs) tops) start (h .0) .1 (h .2)))) (row .on start within),
         )
 
@@ -173,19 +180,11 @@ module _ (s xs ys d e : List ℕ) (r q : Judgement) (d′ e′ : List ℕ) (j : 
       (not-given-join (Check.refusals s) _ (not-given-append (Check.refusals s) _ n .0) (own .0, (own .1 .0, (λ i g. let l = g .1 in omega arith, (λ i g. let (clock, right, l) = g .1 in let h = room clock right in omega arith, tt))))) .0
 
   module _ (y : q .verdict .number ≡ 0) where
-    -- the level of the longer record, where the level of the shorter goes on to m
-    goes-on : {l m : ℕ} → ((P : Prop Atom) → Accepted reading free P → (zs : List Pair) → Level reading P (pairs xs) l → Level reading P (pairs xs ++ zs) m) → r .level .number ≡ l → q .level .number ≡ m
-    goes-on {l = l} {m = m} f e =
-        let (P, a, v) = j .accepted z .level in
-        let (zs, more) = pairs-append xs ys in
-        level-only s (xs ++ ys) _ q e′ k y P a m
-        (subst (λ (ls : List Pair). Level reading P ls m) (sym more) (f P (root-accepted s xs d r d′ j z P a) zs (subst (Level reading P (pairs xs)) e v)))
-
     pub held-stays : r .level .number ≡ 3 → q .level .number ≡ 3
-    held-stays = goes-on (λ P c zs. Meaning.held-stays reading P c (pairs xs) zs)
+    held-stays = meant-held-stays s xs ys (table-accepted s xs d r d′ j z) r q (meant s xs d r d′ (j .accepted z)) (meant s (xs ++ ys) e q e′ (k .accepted y))
 
     pub broken-stays : r .level .number ≡ 0 → q .level .number ≡ 0
-    broken-stays = goes-on (λ P c zs. Meaning.broken-stays reading P c (pairs xs) zs)
+    broken-stays = meant-broken-stays s xs ys (table-accepted s xs d r d′ j z) r q (meant s xs d r d′ (j .accepted z)) (meant s (xs ++ ys) e q e′ (k .accepted y))
 
 module _ (s xs d : List ℕ) (r : Judgement) (d′ : List ℕ) (j : Judges s xs d r d′) (z : r .verdict .number ≡ 0) (clock : ℕ → Ref) (right : Clocks s clock) where
   -- the root's row in the workspace, and what it says of the root of s

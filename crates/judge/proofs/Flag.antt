@@ -22,9 +22,9 @@ use Rattle.nodes.proofs.Built.{Built}
 use Rattle.nodes.proofs.Coded.{coded-as}
 use Rattle.nodes.proofs.Shapes.{down}
 use Rattle.table.specs.Trees.{PropertyAt, p-strong, p-weak, p-neg, p-either, p-both, p-imp, p-next, p-until, p-clock, RootP}
-use Rattle.settling.specs.Refusals.{wrongRoot}
+use Rattle.judgement.specs.Refusals.{wrongRoot}
 use Rattle.settling.proofs.Passing.{judgeRest, judge-passes, table-built}
-use Rattle.judge.specs.declared.Judgement.{Judgement}
+use Rattle.judgement.specs.declared.Judgement.{Judgement}
 use Rattle.judge.specs.Judges.{Judges}
 use Rattle.judge.proofs.Demands.{tested-meant}
 

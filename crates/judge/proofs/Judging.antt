@@ -49,13 +49,17 @@ use Rattle.cells.specs.Shares.{share, longest, topWord, wordIn, bitIn, HasRow}
 use Rattle.rows.specs.Rows.{filled, Fits}
 use Rattle.readout.specs.Computed.{levelIn}
 use Rattle.tested.specs.Computed.{testedIn, Testing}
-use Rattle.judge.specs.Rows.{Onward, Filled}
-use Rattle.settling.specs.Refusals.{wrongRoot, judgeRefusals, endsRefusals}
+use Rattle.rowmeaning.specs.Rows.{Onward}
+use Rattle.rowmeaning.proofs.Stepping.{ends-inside}
+use Rattle.judge.specs.Rows.{Filled}
+use Rattle.judgement.specs.declared.Judgement.{Judgement}
+use Rattle.judgement.specs.Refused.{Refused}
+use Rattle.judgement.specs.Refusals.{wrongRoot}
+use Rattle.settling.specs.Refusals.{judgeRefusals, endsRefusals}
 use Rattle.settling.specs.Computed.{ownRefusals, settling, Settles}
 use Rattle.judge.specs.Judges.{Rowed, Judges, EndsMatches}
 use Rattle.judge.specs.Computed.{Lays}
 use Rattle.settling.proofs.Passing.{endsRest, own-parts, table-built, few-nodes, count-is-new, new-keeps, new-accepted}
-use Rattle.judge.proofs.Stepping.{ends-inside}
 use Rattle.judge.proofs.Meaning.{rows-ready, rows-mean}
 use Rattle.judge.proofs.TestedSets.{tested-means, testing}
 
@@ -79,11 +83,11 @@ ends-answer s n start words v a = a
 
 -- a refusal: nothing is changed
 pub judge-refused : (s xs d lent : List ℕ) (r : Renumbered) (new d′ : List ℕ) → Lays s sequence xs 0 d lent r new d′ → ¬ (r .verdict .number ≡ 0)
-    → Judges s xs d (record { verdict = r .verdict; level = record { number = 0 }; tested = false }) d′
-judge-refused s xs d lent r new d′ w z = record {
-  answer = judge-answer s (length xs) (length d) (r .verdict) (w .settles .answer);
-  accepted = λ y. absurd (z y);
-  refused = λ _. (refl, refl, w .stays z);
+    → (q : Judgement) → Refused (r .verdict) q → Judges s xs d q d′
+judge-refused s xs d lent r new d′ w z q h = record {
+  answer = rw (h .verdict) (judge-answer s (length xs) (length d) (r .verdict) (w .settles .answer));
+  accepted = λ y. absurd (z (ap (λ (v : Verdict). v .number) (sym (h .verdict)) ∙ y));
+  refused = λ _. (h .level, h .tested, w .stays z);
 }
 
 pub ends-refused : (s xs d : List ℕ) (start : ℕ) (lent : List ℕ) (r : Renumbered) (new d′ : List ℕ) → Lays s property xs start d lent r new d′ → ¬ (r .verdict .number ≡ 0)
@@ -262,7 +266,7 @@ module _ (s : List ℕ) (wrong n start words : ℕ) (lent : List ℕ) (r : Renum
           (P, a, is-as eb (tested-means s (r .clocks) (r .numbers) built (w .numbered z) xs d d′ laid many few P a))
 
       ends-right : wrong ≡ property → (q : Seq Atom) × RootS s q × Meaning.Ends reading q (pairs xs) start (wordIn d′ (r .count - 1) start)
-          × Tells (bitIn d′ (r .count - 1) topWord start) (Onward reading (pairs xs) q start)
+          × Tells (bitIn d′ (r .count - 1) topWord start) (Onward reading (pairs xs) free q start)
       ends-right g =
           let (q, a) = sequence-at-root g in
           let b = keeps .sequence q a in
@@ -271,7 +275,7 @@ module _ (s : List ℕ) (wrong n start words : ℕ) (lent : List ℕ) (r : Renum
             q,
             a,
             rw last-is (λ j. (
-              λ h. let m = row .ends start within j .to h in (ends-inside reading (pairs xs) (rewS free q) start j within m, same (word (pairs xs) none) start j .1 m),
+              λ h. let m = row .ends start within j .to h in (ends-inside reading (pairs xs) free (rewS free q) start j within m, same (word (pairs xs) none) start j .1 m),
               λ m. row .ends start within j .from (same (word (pairs xs) none) start j .0 (m .1)),
             )),
             rw last-is (is-map (row .on start within) (λ m. (m .0, m .1, same (word (pairs xs) tops) start (m .0) .1 (m .2))) (λ m. (m .0, m .1, same (word (pairs xs) tops) start (m .0) .0 (m .2)))),

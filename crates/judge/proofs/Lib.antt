@@ -1,13 +1,8 @@
--- What the rows mean: the meaning one step at a time, the rows of each sort, all rows of a table, and that no other rows mean the same.
-pub mod WordBits
-pub mod Stepping
-pub mod BooleanRows
-pub mod SequenceRows
-pub mod PropertyRows
+-- What the rows mean: the words of a row, all rows of a table, and that no other rows mean the same. What each rule means stands in `rowmeaning`.
+pub mod Laid
 pub mod Meaning
 pub mod Same
 -- What is read off them, and that no other answer fits.
-pub mod TestedRules
 pub mod TestedSets
 pub mod Judging
 pub mod Unique

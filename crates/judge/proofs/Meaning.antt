@@ -1,15 +1,16 @@
 -- The rows of an accepted table without clocks mean the trees that its nodes stand for: by induction on how a node stands for its tree, with no code.
 -- Assumes nothing.
 use mathlib.Core.Path.{_≡_, refl, ap, subst, _∙_}
-use mathlib.Core.Bool.{false, true≢false}
+use mathlib.Core.Bool.{Bool, false, true≢false}
 use mathlib.Core.List.{List}
-use Prim.Native.Nat.{ℕ, _*_, _≤_, _<_}
+use Prim.Native.Nat.{ℕ, _+_, _*_, _≤_, _<_}
 use native.Mathlib.Omega.{arith}
 use lib.Dec.{eqb}
-use lib.ListN.{length}
+use lib.ListN.{length, getD}
+use Rattle.positions.specs.Member.{has}
 use Rattle.refusal.specs.Heading.{count}
 use Rattle.refusal.specs.Computed.{accepted}
-use Rattle.meaning.specs.Syntax.{Bexp, Seq, Prop}
+use Rattle.meaning.specs.Syntax.{Bexp, Seq, Prop, free}
 use Rattle.meaning.specs.Pairs.{Atom, reading, pairs}
 use Rattle.meaning.proofs.Pairing.{length-pairs}
 use Rattle.nodes.specs.declared.Raw.{Raw}
@@ -21,22 +22,26 @@ use Rattle.nodes.specs.declared.SequenceOp.{SequenceOp}
 use Rattle.nodes.specs.declared.SequenceOp.the-variants.{Letter, Then, Fused, Either, Empty, Repeat, Clocked}
 use Rattle.nodes.specs.declared.PropertyOp.{PropertyOp}
 use Rattle.nodes.specs.declared.PropertyOp.the-variants.{Strong, Weak, Negated, AnyOf, BothOf, Implies, Next, Until, Ticked}
-use Rattle.nodes.specs.Operators.{none, operators, lookup, rowOf, bytesOf, booleanBytes, sequenceBytes, propertyBytes}
-use Rattle.nodes.specs.Nodes.{nodeAt, Operand, WellFormed}
+use Rattle.nodes.specs.Operators.{operators, lookup, rowOf, bytesOf, booleanBytes, sequenceBytes, propertyBytes}
+use Rattle.nodes.specs.Nodes.{nodeAt, WellFormed}
 use Rattle.table.specs.Trees.{BooleanAt, b-const, b-sig, b-risen, b-fallen, b-not, b-and, b-or, SequenceAt, s-one, s-cat, s-fuse, s-alt, s-empty, s-plus, s-clock, PropertyAt, p-strong, p-weak, p-neg, p-either, p-both, p-imp, p-next, p-until, p-clock}
 use Rattle.table.specs.Check.{Checks}
 use Rattle.nodes.proofs.Coded.{coded-as}
-use Rattle.nodes.proofs.Shapes.{Formed, Suits, down}
+use Rattle.nodes.proofs.Shapes.{Formed, Suits, down, numbered}
 use Rattle.table.proofs.Checking.{sound}
 use Rattle.clocks.specs.Clocks.{isClock}
-use Rattle.cells.specs.Shares.{share, longest, wordIn, HasRow}
+use Rattle.cells.specs.Shares.{share, longest, wordIn, wordOf, HasRow}
+use Rattle.cells.specs.Bits.{operandBit, propertyBit}
 use Rattle.rows.specs.Rows.{nodeWord, rowsOf, filled, Ready}
-use Rattle.judge.specs.Rows.{BooleanRow, SequenceRow, PropertyRow, Filled}
 use Rattle.rows.proofs.Filling.{row-at, length-filled, filled-row, filled-rest}
-use Rattle.judge.proofs.WordBits.{BooleanLaid, SequenceLaid, PropertyLaid}
-use Rattle.judge.proofs.BooleanRows.{constant-row, signal-row, risen-row, fallen-row, not-row, and-row, or-row}
-use Rattle.judge.proofs.SequenceRows.{letter-row, then-row, fused-row, either-row, empty-row, repeat-row}
-use Rattle.judge.proofs.PropertyRows.{strong-row, weak-row, negated-row, any-row, both-row, implies-row, next-row, until-row}
+use Rattle.rowmeaning.specs.Rows.{BooleanRow, SequenceRow, PropertyRow}
+use Rattle.rowmeaning.specs.Sets.{Valued, Says}
+use Rattle.rowmeaning.proofs.WordBits.{SequenceLaid}
+use Rattle.rowmeaning.proofs.BooleanRules.{row-values, constant-valued, signal-valued, risen-valued, fallen-valued, not-valued, and-valued, or-valued}
+use Rattle.rowmeaning.proofs.SequenceRules.{letter-row, then-row, fused-row, either-row, empty-row, repeat-row}
+use Rattle.rowmeaning.proofs.PropertyRules.{row-says, strong-says, weak-says, negated-says, any-says, both-says, implies-says, next-says, until-free-says}
+use Rattle.judge.specs.Rows.{Filled}
+use Rattle.judge.proofs.Laid.{BooleanLaid, PropertyLaid, boolean-row, property-row}
 
 module _ (t xs : List ℕ) (c : Checks t accepted) (plain : (k : ℕ) → k < count t → isClock t k ≡ false) (short : length xs ≤ longest) where
   fit : (k : ℕ) → k < count t → WellFormed t k
@@ -50,20 +55,15 @@ module _ (t xs : List ℕ) (c : Checks t accepted) (plain : (k : ℕ) → k < co
   low : {k x sort : ℕ} → Suits t k sort x → HasRow (share * k) x
   low f = omega arith
 
-  -- a signal's number is below 64
-  numbered : (k : ℕ) → k < count t → {v : Node} → nodeAt t k ≡ v → rowOf (bytesOf v .op) .x ≡ none → bytesOf v .x < rowOf (bytesOf v .op) .limit
-  numbered k h e z =
-      subst (λ (r : Raw). Operand t k (rowOf (r .op) .x) (rowOf (r .op) .limit) (r .x)) (coded-as t k (fit k h) e) (fit k h .x) .number z
-
   ready : (k : ℕ) → k < count t → (v : Node) → nodeAt t k ≡ v → Formed (Suits t k) v → Ready (share * k) v
   unfolding rowOf lookup operators bytesOf booleanBytes
   ready k h (Boolean (Constant v)) e f = tt
-  ready k h (Boolean (Signal x)) e f = numbered k h e refl
+  ready k h (Boolean (Signal x)) e f = numbered t k (fit k h) e refl
   ready k h (Boolean (Not x)) e f = low f
   ready k h (Boolean (And x y)) e f = (low (f .0), low (f .1))
   ready k h (Boolean (Or x y)) e f = (low (f .0), low (f .1))
-  ready k h (Boolean (Risen x)) e f = numbered k h e refl
-  ready k h (Boolean (Fallen x)) e f = numbered k h e refl
+  ready k h (Boolean (Risen x)) e f = numbered t k (fit k h) e refl
+  ready k h (Boolean (Fallen x)) e f = numbered t k (fit k h) e refl
   ready k h (Sequence (Letter x)) e f = low f
   ready k h (Sequence (Then x y)) e f = (low (f .0), low (f .1))
   ready k h (Sequence (Fused x y)) e f = (low (f .0), low (f .1))
@@ -127,56 +127,83 @@ module _ (t xs : List ℕ) (c : Checks t accepted) (plain : (k : ℕ) → k < co
     below : {x sort : ℕ} → Suits t k sort x → Placed (rowsOf t xs k) x
     below {x} f = let h = w .inside in record { inside = omega arith; made = λ i l. row-at t xs k x i (f .0) l }
 
-  boolean-means : {D : List ℕ} {k : ℕ} {b : Bexp Atom} → BooleanAt (nodeAt t) k b → Placed D k → BooleanRow reading (pairs xs) (wordIn D k) b
-  boolean-means (b-const {v = v} e) w = constant-row xs _ short _ v (boolean-laid w e)
-  boolean-means (b-sig e) w = signal-row xs _ short _ _ (boolean-laid w e)
-  boolean-means (b-risen e) w = risen-row xs _ short _ _ (boolean-laid w e)
-  boolean-means (b-fallen e) w = fallen-row xs _ short _ _ (boolean-laid w e)
-  boolean-means (b-not e p) w = let f = operands w e in not-row xs _ short _ _ _ (boolean-means p (below w f)) (boolean-laid w e)
-  boolean-means (b-and e p q) w =
-      let (f, g) = operands w e in and-row xs _ short _ _ _ (boolean-means p (below w f)) _ _ (boolean-means q (below w g)) (boolean-laid w e)
-  boolean-means (b-or e p q) w =
-      let (f, g) = operands w e in or-row xs _ short _ _ _ (boolean-means p (below w f)) _ _ (boolean-means q (below w g)) (boolean-laid w e)
+  -- what rows say, and a row by what its rule says
+  values : {row : ℕ → ℕ} {b : Bexp Atom} → BooleanRow reading (pairs xs) row b → Valued reading (pairs xs) b (has (row 0))
+  values = row-values reading (pairs xs)
 
-  sequence-means : {D : List ℕ} {k : ℕ} {r : Seq Atom} → SequenceAt (nodeAt t) k r → Placed D k → SequenceRow reading (pairs xs) (wordIn D k) r
-  sequence-means (s-one e p) w = let f = operands w e in letter-row reading (pairs xs) _ brief _ _ _ (boolean-means p (below w f)) (sequence-laid w e)
+  says : {row : ℕ → ℕ} {P : Prop Atom} → PropertyRow reading (pairs xs) free row P → Says reading (pairs xs) free P (λ u. has (row (wordOf u)))
+  says = row-says reading (pairs xs) free
+
+  by-rule : {R : List ℕ} {op : PropertyOp} {row : ℕ → ℕ} {P : Prop Atom} → PropertyLaid (length (pairs xs)) R op row
+      → Says reading (pairs xs) free P (propertyBit R (length (pairs xs)) op) → PropertyRow reading (pairs xs) free row P
+  by-rule = property-row reading (pairs xs) brief
+
+  -- the booleans below node k
+  abbrev at : ℕ → ℕ → ℕ → Bool
+  at k = operandBit (rowsOf t xs k) share
+
+  operand : (k x : ℕ) {b : Bexp Atom} → BooleanRow reading (pairs xs) (wordIn (rowsOf t xs k) x) b → Valued reading (pairs xs) b (at k x)
+  operand k x {b} r =
+      let e : share * x + 0 ≡ share * x = omega arith in
+      subst (λ m. Valued reading (pairs xs) b (has (getD (rowsOf t xs k) m 0))) e (values r)
+
+  boolean-means : {D : List ℕ} {k : ℕ} {b : Bexp Atom} → BooleanAt (nodeAt t) k b → Placed D k → BooleanRow reading (pairs xs) (wordIn D k) b
+  boolean-means {k = k} (b-const {v = v} e) w = boolean-row short (boolean-laid w e) (constant-valued xs (at k) v)
+  boolean-means {k = k} (b-sig {x = x} e) w = boolean-row short (boolean-laid w e) (signal-valued xs (at k) x)
+  boolean-means {k = k} (b-risen {x = x} e) w = boolean-row short (boolean-laid w e) (risen-valued xs (at k) x)
+  boolean-means {k = k} (b-fallen {x = x} e) w = boolean-row short (boolean-laid w e) (fallen-valued xs (at k) x)
+  boolean-means {k = k} (b-not {x = x} e p) w =
+      let f = operands w e in boolean-row short (boolean-laid w e) (not-valued xs (at k) {x = x} (operand k x (boolean-means p (below w f))))
+  boolean-means {k = k} (b-and {x = x} {y = y} e p q) w =
+      let (f, g) = operands w e in
+      boolean-row short (boolean-laid w e) (and-valued xs (at k) {x = x} (operand k x (boolean-means p (below w f))) {y = y} (operand k y (boolean-means q (below w g))))
+  boolean-means {k = k} (b-or {x = x} {y = y} e p q) w =
+      let (f, g) = operands w e in
+      boolean-row short (boolean-laid w e) (or-valued xs (at k) {x = x} (operand k x (boolean-means p (below w f))) {y = y} (operand k y (boolean-means q (below w g))))
+
+  sequence-means : {D : List ℕ} {k : ℕ} {r : Seq Atom} → SequenceAt (nodeAt t) k r → Placed D k → SequenceRow reading (pairs xs) free (wordIn D k) r
+  sequence-means (s-one e p) w = let f = operands w e in letter-row reading (pairs xs) _ brief _ _ _ (values (boolean-means p (below w f))) (sequence-laid w e)
   sequence-means (s-cat e p q) w =
-      let (f, g) = operands w e in then-row reading (pairs xs) _ brief _ _ _ _ _ (sequence-means p (below w f)) (sequence-means q (below w g)) (sequence-laid w e)
+      let (f, g) = operands w e in then-row reading (pairs xs) free _ brief _ _ _ _ _ (sequence-means p (below w f)) (sequence-means q (below w g)) (sequence-laid w e)
   sequence-means (s-fuse e p q) w =
-      let (f, g) = operands w e in fused-row reading (pairs xs) _ brief _ _ _ _ _ (sequence-means p (below w f)) (sequence-means q (below w g)) (sequence-laid w e)
+      let (f, g) = operands w e in fused-row reading (pairs xs) free _ brief _ _ _ _ _ (sequence-means p (below w f)) (sequence-means q (below w g)) (sequence-laid w e)
   sequence-means (s-alt e p q) w =
-      let (f, g) = operands w e in either-row reading (pairs xs) _ brief _ _ _ _ _ (sequence-means p (below w f)) (sequence-means q (below w g)) (sequence-laid w e)
-  sequence-means (s-empty e p) w = empty-row reading (pairs xs) _ brief _ _ _ (sequence-laid w e)
-  sequence-means (s-plus e p) w = let f = operands w e in repeat-row reading (pairs xs) _ brief _ _ _ (sequence-means p (below w f)) (sequence-laid w e)
+      let (f, g) = operands w e in either-row reading (pairs xs) free _ brief _ _ _ _ _ (sequence-means p (below w f)) (sequence-means q (below w g)) (sequence-laid w e)
+  sequence-means (s-empty e p) w = empty-row reading (pairs xs) free _ brief _ _ _ (sequence-laid w e)
+  sequence-means (s-plus e p) w = let f = operands w e in repeat-row reading (pairs xs) free _ brief _ _ _ (sequence-means p (below w f)) (sequence-laid w e)
   sequence-means (s-clock {k = k} {c = d} {x = x} e p q) w = absurd (no-clocked k (w .inside) d x e)
 
-  property-means : {D : List ℕ} {k : ℕ} {P : Prop Atom} → PropertyAt (nodeAt t) k P → Placed D k → PropertyRow reading (pairs xs) (wordIn D k) P
-  property-means (p-strong e p) w = let f = operands w e in strong-row reading (pairs xs) _ brief _ _ _ (sequence-means p (below w f)) (property-laid w e)
-  property-means (p-weak e p) w = let f = operands w e in weak-row reading (pairs xs) _ brief _ _ _ (sequence-means p (below w f)) (property-laid w e)
-  property-means (p-neg e p) w = let f = operands w e in negated-row reading (pairs xs) _ brief _ _ _ (property-means p (below w f)) (property-laid w e)
+  property-means : {D : List ℕ} {k : ℕ} {P : Prop Atom} → PropertyAt (nodeAt t) k P → Placed D k → PropertyRow reading (pairs xs) free (wordIn D k) P
+  property-means (p-strong e p) w = let f = operands w e in by-rule (property-laid w e) (strong-says reading (pairs xs) free brief _ _ (sequence-means p (below w f)))
+  property-means (p-weak e p) w = let f = operands w e in by-rule (property-laid w e) (weak-says reading (pairs xs) free brief _ _ (sequence-means p (below w f)))
+  property-means (p-neg e p) w = let f = operands w e in by-rule (property-laid w e) (negated-says reading (pairs xs) free (says (property-means p (below w f))))
   property-means (p-either e p q) w =
-      let (f, g) = operands w e in any-row reading (pairs xs) _ brief _ _ _ (property-means p (below w f)) _ _ (property-means q (below w g)) (property-laid w e)
+      let (f, g) = operands w e in
+      by-rule (property-laid w e) (any-says reading (pairs xs) free (says (property-means p (below w f))) (says (property-means q (below w g))))
   property-means (p-both e p q) w =
-      let (f, g) = operands w e in both-row reading (pairs xs) _ brief _ _ _ (property-means p (below w f)) _ _ (property-means q (below w g)) (property-laid w e)
+      let (f, g) = operands w e in
+      by-rule (property-laid w e) (both-says reading (pairs xs) free (says (property-means p (below w f))) (says (property-means q (below w g))))
   property-means (p-imp e p q) w =
-      let (f, g) = operands w e in implies-row reading (pairs xs) _ brief _ _ _ (sequence-means p (below w f)) _ _ (property-means q (below w g)) (property-laid w e)
-  property-means (p-next e p) w = let f = operands w e in next-row reading (pairs xs) _ brief _ _ _ (property-means p (below w f)) (property-laid w e)
+      let (f, g) = operands w e in
+      by-rule (property-laid w e) (implies-says reading (pairs xs) free brief _ _ (sequence-means p (below w f)) (says (property-means q (below w g))))
+  property-means (p-next e p) w = let f = operands w e in by-rule (property-laid w e) (next-says reading (pairs xs) (says (property-means p (below w f))))
   property-means (p-until e p q) w =
-      let (f, g) = operands w e in until-row reading (pairs xs) _ brief _ _ _ (property-means p (below w f)) _ _ (property-means q (below w g)) (property-laid w e)
+      let (f, g) = operands w e in
+      by-rule (property-laid w e) (until-free-says reading (pairs xs) (says (property-means p (below w f))) (says (property-means q (below w g))))
   property-means (p-clock {k = k} {c = d} {x = x} e p q) w = absurd (no-ticked k (w .inside) d x e)
 
   -- what `fill` leaves is what the page says
   pub rows-mean : (d out : List ℕ) → share * count t ≤ length d → out ≡ filled t xs d (count t) → Filled t xs d out
   rows-mean d out h e = record {
     long = ap length e ∙ length-filled t xs d (count t) h;
-    booleans = λ k l b s. boolean-means s (at k l);
-    sequences = λ k l r s. sequence-means s (at k l);
-    properties = λ k l P s. property-means s (at k l);
+    booleans = λ k l b s. boolean-means s (there k l);
+    sequences = λ k l r s. sequence-means s (there k l);
+    properties = λ k l P s. property-means s (there k l);
     stay = λ j l. rw e (filled-rest t xs d (count t) j l);
   }
     where
-      at : (k : ℕ) → k < count t → Placed out k
-      at k l = record {
+      there : (k : ℕ) → k < count t → Placed out k
+      there k l = record {
         inside = l;
         made = λ i u. rw e (filled-row t xs d (count t) k i l u) ∙ row-at t xs (count t) k i l u;
       }

@@ -13,7 +13,7 @@ use Rattle.positions.specs.Member.{has}
 use Rattle.positions.proofs.Laws.{ext}
 use Rattle.refusal.specs.Heading.{count}
 use Rattle.refusal.specs.Computed.{accepted}
-use Rattle.meaning.specs.Syntax.{Bexp, Seq, Prop}
+use Rattle.meaning.specs.Syntax.{Bexp, Seq, Prop, Clock, free}
 use Rattle.meaning.specs.Words.{Tail, none, tops, bots}
 use Rattle.meaning.specs.Pairs.{reading, pairs}
 use Rattle.nodes.specs.declared.Node.{Node}
@@ -24,18 +24,19 @@ use Rattle.nodes.proofs.Shapes.{sortOf, sort-is}
 use Rattle.table.proofs.Standing.{boolean-in, sequence-in, property-in}
 use Rattle.table.proofs.Checking.{sound}
 use Rattle.cells.specs.Shares.{share, topWord, wordIn, wordOf}
-use Rattle.judge.specs.Rows.{BooleanRow, SequenceRow, PropertyRow, Filled}
+use Rattle.rowmeaning.specs.Rows.{BooleanRow, SequenceRow, PropertyRow}
+use Rattle.judge.specs.Rows.{Filled}
 
 -- two words that agree below n, and have no place from n on
 same-word : (n : ℕ) {x y : ℕ} → ((k : ℕ) → k < n → has x k ≡ has y k) → ((k : ℕ) → n ≤ k → has x k ≡ false) → ((k : ℕ) → n ≤ k → has y k ≡ false) → x ≡ y
 same-word n {x} {y} e p q = ext x y (λ k. ⊎-elim (e k) (λ u. p k u ∙ sym (q k u)) (side k n))
 
-module _ {A S : Type 0} (reads : A → S → Bool) (xs : List S) (f g : ℕ → ℕ) where
+module _ {A S : Type 0} (reads : A → S → Bool) (xs : List S) (κ : Clock A) (f g : ℕ → ℕ) where
   same-boolean : (b : Bexp A) → BooleanRow reads xs f b → BooleanRow reads xs g b → (i : ℕ) → i < share → f i ≡ g i
   same-boolean b p q zero l = same-word (length xs) (λ k u. p .bits k u ∙ sym (q .bits k u)) (p .past) (q .past)
   same-boolean b p q (suc i) l = p .zero (suc i) (omega arith) l ∙ sym (q .zero (suc i) (omega arith) l)
 
-  same-sequence : (r : Seq A) → SequenceRow reads xs f r → SequenceRow reads xs g r → (i : ℕ) → i < share → f i ≡ g i
+  same-sequence : (r : Seq A) → SequenceRow reads xs κ f r → SequenceRow reads xs κ g r → (i : ℕ) → i < share → f i ≡ g i
   same-sequence r p q i l =
       ⊎-elim
       (λ u.
@@ -46,7 +47,7 @@ module _ {A S : Type 0} (reads : A → S → Bool) (xs : List S) (f g : ℕ → 
       top =
           same-word (suc (length xs)) (λ k u. same-test (p .on k (le-of-suc-le-suc u)) (q .on k (le-of-suc-le-suc u))) (p .past) (q .past)
 
-  same-property : (P : Prop A) → PropertyRow reads xs f P → PropertyRow reads xs g P → (i : ℕ) → i < share → f i ≡ g i
+  same-property : (P : Prop A) → PropertyRow reads xs κ f P → PropertyRow reads xs κ g P → (i : ℕ) → i < share → f i ≡ g i
   same-property P p q = elim [
     | zero ↦ λ l. at none
     | suc i ↦ elim i [
@@ -70,13 +71,13 @@ filled-unique t xs c d out other p q =
     row : (k : ℕ) → k < count t → (v : Node) → nodeAt t k ≡ v → (i : ℕ) → i < share → wordIn out k i ≡ wordIn other k i
     row k h (Boolean o) e =
         let (b, s) = boolean-in t (count t) fit (count t) k h h (sort-is t k (fit k h) ∙ ap sortOf e) in
-        same-boolean reading (pairs xs) _ _ b (p .booleans k h b s) (q .booleans k h b s)
+        same-boolean reading (pairs xs) free _ _ b (p .booleans k h b s) (q .booleans k h b s)
     row k h (Sequence o) e =
         let (r, s) = sequence-in t (count t) fit (count t) k h h (sort-is t k (fit k h) ∙ ap sortOf e) in
-        same-sequence reading (pairs xs) _ _ r (p .sequences k h r s) (q .sequences k h r s)
+        same-sequence reading (pairs xs) free _ _ r (p .sequences k h r s) (q .sequences k h r s)
     row k h (Property o) e =
         let (P, s) = property-in t (count t) fit (count t) k h h (sort-is t k (fit k h) ∙ ap sortOf e) in
-        same-property reading (pairs xs) _ _ P (p .properties k h P s) (q .properties k h P s)
+        same-property reading (pairs xs) free _ _ P (p .properties k h P s) (q .properties k h P s)
 
     inside : (j : ℕ) → j < share * count t → getD out j 0 ≡ getD other j 0
     inside j h =

@@ -2,9 +2,9 @@
 -- rewritten table. Assumes nothing.
 use mathlib.Core.Path.{_≡_, refl, sym, ap, subst, _∙_}
 use mathlib.Core.Bool.{Bool, true, false, cond, _&&_, and-true, and-false}
-use mathlib.Core.List.{List, [], _∷_}
+use mathlib.Core.List.{List}
 use mathlib.Core.Logic.{⊎-elim}
-use Prim.Native.Nat.{ℕ, zero, suc, _*_, _≤_, _<_}
+use Prim.Native.Nat.{ℕ, suc, _*_, _≤_, _<_}
 use native.Mathlib.Omega.{arith}
 use borrow.Author.Tests.{lt-ltb, ne-eqb}
 use lib.Dec.{T, eqb, leb}
@@ -15,11 +15,11 @@ use Rattle.positions.specs.Member.{has}
 use Rattle.refusal.specs.Heading.{count}
 use Rattle.meaning.specs.Syntax.{Bexp, Seq, Prop, implies, Clock, free}
 use Rattle.meaning.specs.Words.{Word, inside, word, none}
-use Rattle.meaning.specs.Meaning.{satisfies, Match, counts, ticks, Sat}
+use Rattle.meaning.specs.Meaning.{satisfies, Match, counts, Sat}
 use Rattle.meaning.specs.Tested.{Tests}
 use Rattle.meaning.specs.Pairs.{Atom, Pair, reading, pairs}
 use Rattle.meaning.specs.Rewriting.{rewS, rewP}
-use Rattle.meaning.proofs.Words.{word-inside, word-out}
+use Rattle.meaning.proofs.Words.{word-inside}
 use Rattle.meaning.proofs.Rewriting.{match-rew, sat-rew}
 use Rattle.meaning.proofs.Pairing.{length-pairs}
 use Rattle.meaning.proofs.Renaming.{both-ways}
@@ -48,21 +48,17 @@ use Rattle.writing.proofs.Passes.{byte-free, byte-on, number-of, clock-is, cond
 use Rattle.rewrite.proofs.Ordering.{stands-in}
 use Rattle.rewrite.proofs.Trees as Trees
 use Rattle.cells.specs.Shares.{share, longest, bitIn, HasRow}
-use Rattle.cells.specs.Bits.{lastLetter}
+use Rattle.cells.specs.Bits.{lastLetter, startsInto}
 use Rattle.cells.specs.Stored.{set64}
-use Rattle.tested.specs.Computed.{Standing, isTick, firstTick, nextTested, startsInto, impliesTested, letterMatches, nodeTested, standingOf, setFrom, setsBelow, testedIn, clockThere, nodeThere, Testing}
+use Rattle.tested.specs.Computed.{Standing, isTick, nextTested, impliesTested, letterMatches, nodeTested, standingOf, setFrom, setsBelow, testedIn, clockThere, nodeThere, Testing}
 use Rattle.tested.proofs.Setting.{set-below}
+use Rattle.ticking.specs.Ticks.{secondTick}
+use Rattle.rowmeaning.specs.Sets.{TestedBy}
+use Rattle.rowmeaning.proofs.WordBits.{in-word, has-word, off-word}
+use Rattle.rowmeaning.proofs.Stepping.{ticks-satisfy, satisfies-in}
+use Rattle.rowmeaning.proofs.SequenceRules.{longer-tells}
+use Rattle.rowmeaning.proofs.TestedRules.{strong-tested, weak-tested, not-tested, or-tested, and-tested, implies-tested, letter-tested, next-tested, tick-tested, until-tested, under-tested}
 use Rattle.judge.specs.Rows.{Filled}
-use Rattle.judge.proofs.WordBits.{in-word, has-word, off-word}
-use Rattle.judge.proofs.SequenceRows.{longer-tells}
-use Rattle.judge.proofs.TestedRules.{TestedBy, strong-tested, weak-tested, not-tested, or-tested, and-tested, implies-tested, letter-tested, next-tested, tick-tested, until-tested, under-tested}
-
--- with no tail a tick is a letter that satisfies the condition
-ticks-satisfy : {A S : Type 0} (reads : A → S → Bool) (c : Bexp A) (xs : List S) (j : ℕ) → ticks reads c (word xs none j) ≡ satisfies reads (word xs none j) c
-unfolding ticks satisfies word
-ticks-satisfy reads c [] j = refl
-ticks-satisfy reads c (x ∷ xs) zero = refl
-ticks-satisfy reads c (x ∷ xs) (suc j) = ticks-satisfy reads c xs j
 
 module _ (s clocks numbers : List ℕ) (ok : Built s) (h : Numbered s clocks numbers) (xs d ws : List ℕ) (rows : Filled (newTable s (clockBy clocks)) xs d ws)
     (counted : count (newTable s (clockBy clocks)) ≡ newCount s (clockBy clocks)) (short : length (pairs xs) ≤ longest) where
@@ -95,7 +91,7 @@ module _ (s clocks numbers : List ℕ) (ok : Built s) (h : Numbered s clocks num
   at k = standingOf s clocks numbers k
 
   abbrev By : Clock Atom → Prop Atom → (ℕ → Bool) → Type 0
-  By κ P X = TestedBy reading (pairs xs) short κ P X
+  By κ P X = TestedBy reading (pairs xs) κ P X
 
   abbrev Has : ℕ → Ref → Type 0
   Has k ρ = Trees.Has s ok clock right k ρ
@@ -138,7 +134,7 @@ module _ (s clocks numbers : List ℕ) (ok : Built s) (h : Numbered s clocks num
     matched {r} q a ea i l u =
         let row = rows .sequences (ν x) (new-in (hx .0)) (rewS κ r) (Trees.sequence-stands s ok clock right q hx c) in
         let m = match-rew reading κ r w i (suc l) in
-        rw ea (is-map (longer-tells reading (pairs xs) ws (ν x) (rewS κ r) row i u (suc l)) (λ z. let v = z .1 in (m .1 (z .0), omega arith)) (λ z. let v = z .1 in (m .0 (z .0), omega arith)))
+        rw ea (is-map (longer-tells reading (pairs xs) free ws (ν x) (rewS κ r) row i u (suc l)) (λ z. let v = z .1 in (m .1 (z .0), omega arith)) (λ z. let v = z .1 in (m .0 (z .0), omega arith)))
 
     -- where a property at x holds, with no tail
     held : {P : Prop Atom} → PropertyAt nodes x P → (a : ℕ) → a ≡ ν x → (k : ℕ) → k ≤ n → Tells (bitIn ws a 0 k) (Sat reading κ P w k)
@@ -155,7 +151,7 @@ module _ (s clocks numbers : List ℕ) (ok : Built s) (h : Numbered s clocks num
   on-byte {k} {c} hk = byte-on (getD clocks k 0) c (clock-is s clocks numbers h k (hk .0) ∙ hk .1)
 
   abbrev tickTested : ℕ → (ℕ → Bool) → ℕ → Bool
-  tickTested k X = firstTick (isTick ws n (at k .clock) (at k .condition)) n (λ j. firstTick (isTick ws n (at k .clock) (at k .condition)) n X (suc j))
+  tickTested k X = secondTick (isTick ws n (at k .clock) (at k .condition)) n false X
 
   next-free : {k : ℕ} {P : Prop Atom} (X : ℕ → Bool) → Has k freeR → By free P (λ i. X (suc i)) → By free P (nextTested ws n (at k .clock) (at k .condition) X)
   next-free {k} {P} X hk b = subst (λ (t : Bool). By free P (λ i. cond t (X (suc i)) (tickTested k X i))) (sym (free-byte hk)) b
@@ -169,18 +165,13 @@ module _ (s clocks numbers : List ℕ) (ok : Built s) (h : Numbered s clocks num
       rw (free-byte hk)
       (is-map (is-lt j n) (λ l. (word-inside (pairs xs) none j l, tt)) (λ q. inside-none reading (pairs xs) j (q .0)))
 
-  -- past the record nothing is satisfied
-  satisfied-in : (b : Bexp Atom) (j : ℕ) → T (satisfies reading (w j) b) → j < n
-  unfolding satisfies
-  satisfied-in b j t = ⊎-elim (λ l. l) (λ l. absurd (rw (word-out (pairs xs) none j l) at t)) (side j n)
-
   -- the row of a boolean at c
   satisfied : {c : ℕ} {b : Bexp Atom} → c < count s → BooleanAt nodes c b → (a : ℕ) → a ≡ ν c → (j : ℕ) → Tells (bitIn ws a 0 j) (T (satisfies reading (w j) b))
   satisfied {c} {b} l q a ea j =
       let row = rows .booleans (ν c) (new-in l) b (Trees.boolean-stands s ok clock right q l) in
       rw ea
       (⊎-elim (λ u. is-as (row .bits j u) (is-test (satisfies reading (w j) b)))
-      (λ u. is-as (row .past j u) (is-false (λ t. let v = satisfied-in b j t in absurd (omega arith)))) (side j n))
+      (λ u. is-as (row .past j u) (is-false (λ t. let v = satisfies-in reading b (pairs xs) j t in absurd (omega arith)))) (side j n))
 
   tick-on : {k c : ℕ} {b : Bexp Atom} → Has k (onR c) → BooleanAt nodes c b → (j : ℕ) → Tells (isTick ws n (at k .clock) (at k .condition) j) (T (satisfies reading (w j) b))
   tick-on {k} {c} hk q j =
@@ -191,7 +182,7 @@ module _ (s clocks numbers : List ℕ) (ok : Built s) (h : Numbered s clocks num
   tick : {k : ℕ} {ρ : Ref} {κ : Clock Atom} → Has k ρ → ClockAt nodes ρ κ → (j : ℕ) → Tells (isTick ws n (at k .clock) (at k .condition) j) (T (inside (w j)) × T (counts reading κ (w j)))
   unfolding counts
   tick hk c-free j = tick-free hk j
-  tick hk (c-on {b = b} q) j = is-map (tick-on hk q j) (λ t. (word-inside (pairs xs) none j (satisfied-in b j t), t)) (λ z. z .1)
+  tick hk (c-on {b = b} q) j = is-map (tick-on hk q j) (λ t. (word-inside (pairs xs) none j (satisfies-in reading b (pairs xs) j t), t)) (λ z. z .1)
 
   -- ---- the left side of `|->`
 
@@ -209,10 +200,10 @@ module _ (s clocks numbers : List ℕ) (ok : Built s) (h : Numbered s clocks num
   lettered {x} (s-one {x = c} e q) hx c-free t p =
       let inside = Trees.inside s ok clock right (hx .0) (Trees.goes s ok clock right (hx .0) e) in
       let a-is = row-of (hx .0) e (λ r. r .x) inside in
-      letter-tested reading (pairs xs) short
+      letter-tested reading (pairs xs)
       (λ i.
       is-as (ap (λ (u : ℕ). has u i) (own-is (hx .0) e _ _ refl refl))
-      (in-word (letterMatches ws (at x) (Letter c)) i (λ t. let l = satisfied-in _ i t in omega arith)
+      (in-word (letterMatches ws (at x) (Letter c)) i (λ t. let l = satisfies-in reading _ (pairs xs) i t in omega arith)
       (is-as (rw (free-byte hx) (and-true (bitIn ws (at x .a) 0 i))) (satisfied inside q (at x .a) a-is i))))
       p
   lettered {x} (s-one {x = c} e q) hx (c-on b) t p =
@@ -240,17 +231,17 @@ module _ (s clocks numbers : List ℕ) (ok : Built s) (h : Numbered s clocks num
 
   sets-mean : {k : ℕ} {P : Prop Atom} {ρ : Ref} {κ : Clock Atom} → PropertyAt nodes k P → Has k ρ → ClockAt nodes ρ κ → By κ P (has (own k))
   unfolding bytesOf propertyBytes
-  sets-mean (p-strong e q) hk c = made (hk .0) e _ _ refl refl (strong-tested reading (pairs xs) short _ _)
-  sets-mean (p-weak e q) hk c = made (hk .0) e _ _ refl refl (weak-tested reading (pairs xs) short _ _)
+  sets-mean (p-strong e q) hk c = made (hk .0) e _ _ refl refl (strong-tested reading (pairs xs) _ _)
+  sets-mean (p-weak e q) hk c = made (hk .0) e _ _ refl refl (weak-tested reading (pairs xs) _ _)
   sets-mean (p-neg e q) hk c =
       let g = Trees.goes s ok clock right (hk .0) e in
-      made (hk .0) e _ _ (operand (hk .0) (g .0)) refl (not-tested reading (pairs xs) short (sets-mean q (part hk e g tt) c))
+      made (hk .0) e _ _ (operand (hk .0) (g .0)) refl (not-tested reading (pairs xs) (sets-mean q (part hk e g tt) c))
   sets-mean (p-either e q z) hk c =
       let (f, g) = Trees.goes s ok clock right (hk .0) e in
-      made (hk .0) e _ _ (operand (hk .0) (f .0)) (operand (hk .0) (g .0)) (or-tested reading (pairs xs) short (sets-mean q (part hk e f tt) c) (sets-mean z (part hk e g tt) c))
+      made (hk .0) e _ _ (operand (hk .0) (f .0)) (operand (hk .0) (g .0)) (or-tested reading (pairs xs) (sets-mean q (part hk e f tt) c) (sets-mean z (part hk e g tt) c))
   sets-mean (p-both e q z) hk c =
       let (f, g) = Trees.goes s ok clock right (hk .0) e in
-      made (hk .0) e _ _ (operand (hk .0) (f .0)) (operand (hk .0) (g .0)) (and-tested reading (pairs xs) short (sets-mean q (part hk e f tt) c) (sets-mean z (part hk e g tt) c))
+      made (hk .0) e _ _ (operand (hk .0) (f .0)) (operand (hk .0) (g .0)) (and-tested reading (pairs xs) (sets-mean q (part hk e f tt) c) (sets-mean z (part hk e g tt) c))
   sets-mean {k} (p-imp e q z) hk c =
       let (f, g) = Trees.goes s ok clock right (hk .0) e in
       let hx = part hk e f tt in
@@ -259,20 +250,20 @@ module _ (s clocks numbers : List ℕ) (ok : Built s) (h : Numbered s clocks num
       (asked _ _ _ (λ t. lettered q hx c t p) (implies-tested reading (pairs xs) short p (matched c hx q (at k .a) (row-of (hk .0) e (λ r. r .x) (hx .0)))))
   sets-mean (p-next {x = x} e q) hk c-free =
       let g = Trees.goes s ok clock right (hk .0) e in
-      made (hk .0) e _ _ (operand (hk .0) (g .0)) refl (next-free (has (own x)) hk (next-tested reading (pairs xs) short (sets-mean q (part hk e g tt) c-free)))
+      made (hk .0) e _ _ (operand (hk .0) (g .0)) refl (next-free (has (own x)) hk (next-tested reading (pairs xs) (sets-mean q (part hk e g tt) c-free)))
   sets-mean (p-next {x = x} e q) hk (c-on {b = b} z) =
       let g = Trees.goes s ok clock right (hk .0) e in
       made (hk .0) e _ _ (operand (hk .0) (g .0)) refl
-      (next-on (has (own x)) hk (tick-tested reading (pairs xs) short b (λ j. is-like (tick-on hk z j) (both-ways (ap T (ticks-satisfy reading b (pairs xs) j)))) (sets-mean q (part hk e g tt) (c-on z))))
+      (next-on (has (own x)) hk (tick-tested reading (pairs xs) b (λ j. is-like (tick-on hk z j) (both-ways (ap T (ticks-satisfy reading b (pairs xs) j)))) (sets-mean q (part hk e g tt) (c-on z))))
   sets-mean {k} (p-until e q z) hk c =
       let (f, g) = Trees.goes s ok clock right (hk .0) e in
       let hx = part hk e f tt in
       let hy = part hk e g tt in
       made (hk .0) e _ _ (operand (hk .0) (f .0)) (operand (hk .0) (g .0))
-      (until-tested reading (pairs xs) short (sets-mean q hx c) (sets-mean z hy c) (tick hk c) (held c hx q (at k .a) (row-of (hk .0) e (λ r. r .x) (hx .0))) (held c hy z (at k .b) (row-of (hk .0) e (λ r. r .y) (hy .0))))
+      (until-tested reading (pairs xs) (sets-mean q hx c) (sets-mean z hy c) (tick hk c) (held c hx q (at k .a) (row-of (hk .0) e (λ r. r .x) (hx .0))) (held c hy z (at k .b) (row-of (hk .0) e (λ r. r .y) (hy .0))))
   sets-mean (p-clock e b q) hk c =
       let (_, g) = Trees.goes s ok clock right (hk .0) e in
-      made (hk .0) e _ _ refl (operand (hk .0) (g .0)) (under-tested reading (pairs xs) short (sets-mean q (part hk e g tt) (c-on b)))
+      made (hk .0) e _ _ refl (operand (hk .0) (g .0)) (under-tested reading (pairs xs) (sets-mean q (part hk e g tt) (c-on b)))
 
   -- what is read off the root's set
   pub tested-means : (P : Prop Atom) → RootP s P → Tells (testedIn s clocks numbers ws (length xs)) (Tests reading (pairs xs) P)

@@ -14,30 +14,32 @@ use Rattle.refusal.specs.Heading.{version, count}
 use Rattle.refusal.specs.Computed.{accepted}
 use Rattle.meaning.specs.Syntax.{Bexp, Seq, Prop, free}
 use Rattle.meaning.specs.Words.{none, tops}
-use Rattle.meaning.specs.Meaning.{Level, Ends}
+use Rattle.meaning.specs.Meaning.{Ends}
 use Rattle.meaning.specs.Signal.{signal}
-use Rattle.meaning.specs.Tested.{Tests}
 use Rattle.meaning.specs.Pairs.{Atom, reading, pairs}
 use Rattle.meaning.specs.Renaming.{renameC, signalsB, signalsS, signalsP}
 use Rattle.meaning.proofs.Pairing.{length-pairs}
-use Rattle.meaning.proofs.Samples.{satisfies-by-samples, match-by-samples, sat-by-samples, tests-by-samples, level-by-samples, ends-by-samples}
+use Rattle.meaning.proofs.Samples.{satisfies-by-samples, match-by-samples, sat-by-samples, ends-by-samples}
 use Rattle.nodes.specs.NodeClock.{Ref}
 use Rattle.nodes.specs.Nodes.{root}
 use Rattle.nodes.proofs.Built.{Built}
-use Rattle.table.specs.Trees.{RootS, RootP}
+use Rattle.table.specs.Trees.{RootS}
 use Rattle.table.specs.Check as Check
 use Rattle.table.proofs.Checking.{sound}
 use Rattle.table.proofs.VersionOne.{signals-boolean, signals-sequence, signals-property}
 use Rattle.clocks.specs.Clocks.{Clocks}
 use Rattle.writing.specs.Tables.{newTable}
 use Rattle.rewrite.specs.Rewrites.{OfClocks, tooMany}
-use Rattle.settling.proofs.Passing.{judge-passes, ends-passes, judgeRest, endsRest, table-built, new-accepted, new-keeps}
+use Rattle.settling.proofs.Passing.{judge-passes, ends-passes, judgeRest, endsRest, table-checks, table-built, new-accepted, new-keeps}
 use Rattle.nodes.specs.Operators.{sequence, property}
-use Rattle.settling.specs.Refusals.{wrongRoot}
-use Rattle.judge.specs.declared.Judgement.{Judgement}
+use Rattle.judgement.specs.Refusals.{wrongRoot}
+use Rattle.judgement.specs.declared.Judgement.{Judgement}
+use Rattle.judgement.proofs.VersionOne.{meant-by-samples}
 use Rattle.judge.specs.declared.MatchEnds.{MatchEnds}
-use Rattle.judge.specs.Rows.{Onward, BooleanRow, SequenceRow, PropertyRow, Filled}
+use Rattle.rowmeaning.specs.Rows.{Onward, BooleanRow, SequenceRow, PropertyRow}
+use Rattle.judge.specs.Rows.{Filled}
 use Rattle.judge.specs.Judges.{Rowed, Judges, EndsMatches}
+use Rattle.judge.proofs.Unique.{meant}
 use Rattle.judge.specs.BySamples.{RowsBySamples, JudgedBySamples, EndedBySamples}
 
 -- what tells the one tells the other
@@ -47,7 +49,7 @@ is-as-well t e = is-map t (e .0) (e .1)
 -- ---- a row over pairs is the row over samples
 
 module _ (xs : List ℕ) where
-  onward-by-samples : (q : Seq ℕ) (i : ℕ) → Onward reading (pairs xs) (signalsS q) i ↔ Onward signal xs q i
+  onward-by-samples : (q : Seq ℕ) (i : ℕ) → Onward reading (pairs xs) free (signalsS q) i ↔ Onward signal xs free q i
   unfolding renameC
   onward-by-samples q i =
       let n = length-pairs xs in (
@@ -65,7 +67,7 @@ module _ (xs : List ℕ) where
           zero = r .zero;
         }
 
-    sequence-row : (q : Seq ℕ) → SequenceRow reading (pairs xs) row (signalsS q) → SequenceRow signal xs row q
+    sequence-row : (q : Seq ℕ) → SequenceRow reading (pairs xs) free row (signalsS q) → SequenceRow signal xs free row q
     unfolding renameC
     sequence-row q r =
         let n = length-pairs xs in
@@ -76,7 +78,7 @@ module _ (xs : List ℕ) where
           zero = λ w l u. r .zero w (omega arith) u;
         }
 
-    property-row : (P : Prop ℕ) → PropertyRow reading (pairs xs) row (signalsP P) → PropertyRow signal xs row P
+    property-row : (P : Prop ℕ) → PropertyRow reading (pairs xs) free row (signalsP P) → PropertyRow signal xs free row P
     unfolding renameC
     property-row P r =
         let n = length-pairs xs in
@@ -96,10 +98,10 @@ module _ (t xs : List ℕ) (ok : Built t) (first : version t ≡ 1) where
         (c, e, boolean-row xs _ c (subst (BooleanRow reading (pairs xs) _) e (f .booleans k h b a)));
     sequences = λ k h r a.
         let (q, e) = signals-sequence t (count t) (ok .fit) first a h in
-        (q, e, sequence-row xs _ q (subst (SequenceRow reading (pairs xs) _) e (f .sequences k h r a)));
+        (q, e, sequence-row xs _ q (subst (SequenceRow reading (pairs xs) free _) e (f .sequences k h r a)));
     properties = λ k h P a.
         let (Q, e) = signals-property t (count t) (ok .fit) first a h in
-        (Q, e, property-row xs _ Q (subst (PropertyRow reading (pairs xs) _) e (f .properties k h P a)));
+        (Q, e, property-row xs _ Q (subst (PropertyRow reading (pairs xs) free _) e (f .properties k h P a)));
   }
 
 -- ---- the answers
@@ -130,15 +132,10 @@ module _ (s xs d : List ℕ) (r : Judgement) (d′ : List ℕ) (j : Judges s xs 
   version-one-judged =
       let x = wrongRoot s sequence in
       let rest = judgeRest s (length xs) (length d) in
+      let m = meant-by-samples s xs (table-checks s x rest judge-none) first r (meant s xs d r d′ (j .accepted z)) in
       record {
-        level =
-            let (P, a, l) = j .accepted z .level in
-            let (Q, e) = signals-property s (count s) (built s xs first x rest judge-none .fit) first a (root-in s xs first x rest judge-none) in
-            (Q, subst (RootP s) e a, level-by-samples Q xs _ .0 (subst (λ (P : Prop Atom). Level reading P (pairs xs) (r .level .number)) e l));
-        tested =
-            let (P, a, t) = j .accepted z .tested in
-            let (Q, e) = signals-property s (count s) (built s xs first x rest judge-none .fit) first a (root-in s xs first x rest judge-none) in
-            (Q, subst (RootP s) e a, is-as-well (subst (λ (P : Prop Atom). Tells (r .tested) (Tests reading (pairs xs) P)) e t) (tests-by-samples Q xs));
+        level = m .level;
+        tested = m .tested;
         rows = rowed s xs first x rest judge-none d d′ (j .accepted z .rows);
       }
 
@@ -158,7 +155,7 @@ module _ (s xs d : List ℕ) (start : ℕ) (r : MatchEnds) (d′ : List ℕ) (j 
               q,
               subst (RootS s) e a,
               ends-by-samples q xs start _ .0 (subst (λ (p : Seq Atom). Ends reading p (pairs xs) start (r .mask .bits)) e m),
-              is-as-well (subst (λ (p : Seq Atom). Tells (r .top) (Onward reading (pairs xs) p start)) e t) (onward-by-samples xs q start),
+              is-as-well (subst (λ (p : Seq Atom). Tells (r .top) (Onward reading (pairs xs) free p start)) e t) (onward-by-samples xs q start),
             );
         rows = rowed s xs first x rest ends-none d d′ (j .accepted z .rows);
       }

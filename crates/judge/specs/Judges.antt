@@ -7,7 +7,7 @@ use Prim.Native.Nat.{ℕ}
 use lib.ListN.{length}
 use Rattle.telling.specs.Tells.{Tells}
 use Rattle.refusal.specs.First.{Answers}
-use Rattle.meaning.specs.Syntax.{Seq, Prop}
+use Rattle.meaning.specs.Syntax.{Seq, Prop, free}
 use Rattle.meaning.specs.Meaning.{Level, Ends}
 use Rattle.meaning.specs.Tested.{Tests}
 use Rattle.meaning.specs.Pairs.{Atom, reading, pairs}
@@ -15,9 +15,10 @@ use Rattle.table.specs.Trees.{RootS, RootP}
 use Rattle.writing.specs.Tables.{newTable}
 use Rattle.rewrite.specs.Rewrites.{OfClocks}
 use Rattle.settling.specs.Refusals.{judgeRefusals, endsRefusals}
-use Rattle.judge.specs.declared.Judgement.{Judgement}
+use Rattle.judgement.specs.declared.Judgement.{Judgement}
 use Rattle.judge.specs.declared.MatchEnds.{MatchEnds}
-use Rattle.judge.specs.Rows.{Onward, Filled}
+use Rattle.rowmeaning.specs.Rows.{Onward}
+use Rattle.judge.specs.Rows.{Filled}
 
 -- the workspace has the rows of the rewritten table
 abbrev pub Rowed : List ℕ → List ℕ → List ℕ → List ℕ → Type 0
@@ -41,7 +42,7 @@ pub record Judges (s xs d : List ℕ) (r : Judgement) (d′ : List ℕ) : Type 0
 -- an acceptance of match ends: bit j of the mask is set where samples start to j - 1 match the sequence at the root of s, clocks and all; `top` is yes
 -- exactly if the samples from start on, followed by one or more ⊤, match it; and the rows
 pub record Ended (s xs d : List ℕ) (start : ℕ) (r : MatchEnds) (d′ : List ℕ) : Type 0 where
-  pub ends : (q : Seq Atom) × RootS s q × Ends reading q (pairs xs) start (r .mask .bits) × Tells (r .top) (Onward reading (pairs xs) q start)
+  pub ends : (q : Seq Atom) × RootS s q × Ends reading q (pairs xs) start (r .mask .bits) × Tells (r .top) (Onward reading (pairs xs) free q start)
   pub rows : Rowed s xs d d′
 
 -- the statement of match ends. No second answer and no second workspace fit (`proofs/Unique.antt`, `ends-unique`)

@@ -2,7 +2,8 @@
 use cells::TOP_WORD;
 use cells::word_at;
 use clocks::UNCLOCKED;
-use meaning::Level;
+use judgement::Judgement;
+use judgement::refused;
 use nodes::operators::PROPERTY;
 use nodes::operators::SEQUENCE;
 use positions::PositionSet;
@@ -18,14 +19,6 @@ ghost use lib.ListN.{length, replicate};
 ghost use Rattle.rewrite.specs.Computed.{renumbered};
 ghost use Rattle.judge.specs.Judges.{Judges, EndsMatches};
 ghost use Rattle.judge.specs.Computed.{Lays};
-
-// What the judge answers.
-#[repr(C)]
-pub struct Judgement {
-    pub verdict: Verdict,
-    pub level: Level,
-    pub tested: bool,
-}
 
 // What match ends answers: the ends of the matches from the start, and whether the samples from there on, followed by one or more ⊤, match.
 #[repr(C)]
@@ -89,11 +82,7 @@ pub fn judge(table: &[u8], samples: &[u64], workspace: &mut [u64]) -> Judgement
     );
     let verdict = settled.verdict;
     if verdict.number != 0 {
-        return Judgement {
-            verdict,
-            level: Level::BROKEN,
-            tested: false,
-        };
+        return refused(verdict);
     }
     let m = wide(table[5]);
     let tests = tested(table, m, &clocks, &numbers, workspace, samples.len());

@@ -21,7 +21,7 @@ use Rattle.record.specs.Record as Record
 use Rattle.record.specs.Record.{Reads}
 use Rattle.record.proofs.Samples.{length-samples}
 use Rattle.cells.specs.Shares.{longest}
-use Rattle.judge.specs.declared.Judgement.{Judgement}
+use Rattle.judgement.specs.declared.Judgement.{Judgement}
 use Rattle.settling.specs.Refusals.{judgeRefusals}
 use Rattle.judge.specs.Judges.{Judges}
 use Rattle.settling.proofs.Passing.{judge-passes}

@@ -20,8 +20,8 @@ use Rattle.table.proofs.Checking.{table-singles}
 use Rattle.rewrite.specs.Rewrites.{tooMany}
 use Rattle.record.specs.Record as Record
 use Rattle.cells.specs.Shares.{longest}
-use Rattle.judge.specs.declared.Judgement.{Judgement}
-use Rattle.settling.specs.Refusals.{wrongRoot}
+use Rattle.judgement.specs.declared.Judgement.{Judgement}
+use Rattle.judgement.specs.Refusals.{wrongRoot}
 use Rattle.judge.proofs.Unique.{judge-unique}
 use Rattle.judge.proofs.Demands.{tested-meant}
 use Rattle.linetext.specs.Text.{levelLine, refusedLine}

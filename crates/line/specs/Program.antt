@@ -18,8 +18,8 @@ use Rattle.table.specs.Check as Check
 use Rattle.rewrite.specs.Rewrites.{tooMany}
 use Rattle.record.specs.Record as Record
 use Rattle.cells.specs.Shares.{longest}
-use Rattle.judge.specs.declared.Judgement.{Judgement}
-use Rattle.settling.specs.Refusals.{wrongRoot}
+use Rattle.judgement.specs.declared.Judgement.{Judgement}
+use Rattle.judgement.specs.Refusals.{wrongRoot}
 use Rattle.judge.specs.Judges.{Judges}
 use Rattle.linetext.specs.Text.{levelLine, refusedLine}
 

@@ -82,3 +82,7 @@ coded-at s k w =
 -- the bytes of a node whose kind is known
 pub coded-as : (s : List ℕ) (k : ℕ) → WellFormed s k → {v : Node} → nodeAt s k ≡ v → rawAt s k ≡ bytesOf v
 coded-as s k w e = sym (coded-at s k w) ∙ ap bytesOf e
+
+-- a node that was read and then decoded
+pub read-as : (s : List ℕ) (k : ℕ) (v : Raw) (node : Node) → v ≡ rawAt s k → Decodes v node → {kind : Node} → node ≡ kind → nodeAt s k ≡ kind
+read-as s k v node ev dec e = ap nodeOf (sym ev) ∙ sym (dec .made) ∙ e

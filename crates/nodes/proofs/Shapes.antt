@@ -13,10 +13,10 @@ use Rattle.nodes.specs.declared.BooleanOp.the-variants.{Constant, Signal
 use Rattle.nodes.specs.declared.SequenceOp.the-variants.{Letter, Then, Fused, Either, Empty, Repeat, Clocked}
 use Rattle.nodes.specs.declared.PropertyOp.the-variants.{Strong, Weak, Negated, AnyOf, BothOf, Implies, Next, Until, Ticked}
 use Rattle.nodes.specs.Operators.{none, boolean, sequence, property, operators, unknown, lookup, rowOf, nodeOf, bytesOf, booleanBytes, sequenceBytes, propertyBytes}
-use Rattle.nodes.specs.Nodes.{rawAt, rowAt, sortAt, nodeAt, WellFormed}
+use Rattle.nodes.specs.Nodes.{rawAt, rowAt, sortAt, nodeAt, Operand, WellFormed}
 use Rattle.nodes.specs.NodeClock.{Part, at-x, at-y}
 use Rattle.nodes.proofs.Lookup.{of-lookup, same-line}
-use Rattle.nodes.proofs.Coded.{coded-at}
+use Rattle.nodes.proofs.Coded.{coded-at, coded-as}
 
 abbrev pub sortOf : Node → ℕ
 sortOf (Boolean o) = boolean
@@ -107,3 +107,7 @@ module _ (s : List ℕ) (k : ℕ) (w : WellFormed s k) where
   -- the operands of a node whose kind is known
   pub down : {v : Node} → nodeAt s k ≡ v → Formed (Suits s k) v
   down e = subst (Formed (Suits s k)) e operands
+
+  -- the first byte of a node whose kind is known, where it is a number and no operand
+  pub numbered : {v : Node} → nodeAt s k ≡ v → rowOf (bytesOf v .op) .x ≡ none → bytesOf v .x < rowOf (bytesOf v .op) .limit
+  numbered e z = subst (λ (r : Raw). Operand s k (rowOf (r .op) .x) (rowOf (r .op) .limit) (r .x)) (coded-as s k w e) (w .x) .number z

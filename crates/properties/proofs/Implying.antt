@@ -1,4 +1,4 @@
--- What follows each match that is not empty: a set that a loop makes start by start, and a set that is known by its word. Assumes nothing.
+-- What follows each match that is not empty: a set that a loop makes start by start. Assumes nothing.
 use mathlib.Core.Path.{_≡_}
 use mathlib.Core.Bool.{Bool, not, _||_, _&&_}
 use mathlib.Core.List.{List}
@@ -17,11 +17,7 @@ pub followed-more : (rows : List ℕ) (a i y x last x′ : ℕ) (t : Bool) → T
     → t ≡ not (some (λ l. has last l && not (has y l)) 0 64) → Is x′ (λ j. has x j || (t && eqb j i)) → Taken rows a (i + 1) y x′
 followed-more rows a i y x last x′ t ex el et e = taken-more _ i x x′ t ex (within-as last y _ t et el) e
 
--- the set that is followed into, by the equation of its word
-pub follows-as : (rows : List ℕ) (n a x y z : ℕ) → x ≡ y → Is z (follows rows n a (has x)) → Is z (follows rows n a (has y))
-follows-as rows n a x y z e h = rw (← e) h
-
--- the same without the places of b: those of u, where the set lacks place n
-pub follows-but : (rows : List ℕ) (n a x y z u v b r : ℕ) (t : Bool) → x ≡ y → Is z (follows rows n a (has x)) → u ≡ v → t ≡ has x n
-    → Is b (λ k. has u k && not t) → Is r (λ k. has z k && not (has b k)) → Is r (λ k. follows rows n a (has y) k && not (has v k && not (has y n)))
-follows-but rows n a x y z u v b r t e h eu et eb er k = cc (er k, follows-as rows n a x y z e h k, eb k)
+-- the starts that follow into x, without the places of b: those of u, where x lacks place n
+pub follows-but : (rows : List ℕ) (n a x z u v b r : ℕ) (t : Bool) → Is z (follows rows n a (has x)) → u ≡ v → t ≡ has x n → Is b (λ k. has u k && not t)
+    → Is r (λ k. has z k && not (has b k)) → Is r (λ k. follows rows n a (has x) k && not (has v k && not (has x n)))
+follows-but rows n a x z u v b r t h eu et eb er k = cc (er k, h k, eb k)

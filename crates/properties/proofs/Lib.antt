@@ -1,3 +1,4 @@
--- Laws of until, and of what follows a match.
+-- Laws of until, of what follows a match, and of sets that are read off a row.
 pub mod Implying
+pub mod Reading
 pub mod UntilRuns

@@ -4,7 +4,7 @@ use mathlib.Core.Bool.{Bool, _||_, _&&_}
 use mathlib.Core.List.{List}
 use Prim.Native.Nat.{ℕ}
 use lib.Dec.{eqb, ltb}
-use Rattle.meaning.specs.Words.{none, tops, bots}
+use Rattle.meaning.specs.Words.{Tail, none, tops, bots}
 use Rattle.positions.specs.Member.{has, Is}
 use Rattle.nodes.specs.declared.PropertyOp.{PropertyOp}
 use Rattle.cells.specs.Shares.{wordIn}
@@ -13,6 +13,18 @@ use Rattle.properties.specs.declared.Suffixes.{Suffixes}
 use Rattle.runs.specs.declared.Led.{Led}
 use Rattle.runs.specs.Runs.{led}
 
+-- what the three sets tell: "suffix i satisfies the property, with the tail t"
+abbrev pub told : Suffixes → Tail → ℕ → Bool
+told r none = has (r .neutral .bits)
+told r tops = has (r .weak .bits)
+told r bots = has (r .strong .bits)
+
+-- the three sets have what f says, for each tail
+pub record Sets (f : Tail → ℕ → Bool) (r : Suffixes) : Type 0 where
+  pub neutral : Is (r .neutral .bits) (f none)
+  pub weak : Is (r .weak .bits) (f tops)
+  pub strong : Is (r .strong .bits) (f bots)
+
 -- the three sets are the words of row p
 pub record WordsAt (rows : List ℕ) (p : ℕ) (r : Suffixes) : Type 0 where
   pub neutral : r .neutral .bits ≡ wordIn rows p 0
@@ -20,10 +32,8 @@ pub record WordsAt (rows : List ℕ) (p : ℕ) (r : Suffixes) : Type 0 where
   pub strong : r .strong .bits ≡ wordIn rows p 2
 
 -- the three sets are the words that the rules give an operator
-pub record Satisfying (rows : List ℕ) (n : ℕ) (op : PropertyOp) (r : Suffixes) : Type 0 where
-  pub neutral : Is (r .neutral .bits) (propertyBit rows n op none)
-  pub weak : Is (r .weak .bits) (propertyBit rows n op tops)
-  pub strong : Is (r .strong .bits) (propertyBit rows n op bots)
+abbrev pub Satisfying : List ℕ → ℕ → PropertyOp → Suffixes → Type 0
+Satisfying rows n op r = Sets (propertyBit rows n op) r
 
 -- the starts from which each match of row a has its last letter in the set, for each of three
 pub record Following (rows : List ℕ) (n a : ℕ) (p r : Suffixes) : Type 0 where

@@ -1,5 +1,5 @@
 // What each operator makes of the words of its operands, for the three tails.
-mod untils;
+pub mod untils;
 
 use cells::TOP_WORD;
 use cells::last_letters;
@@ -17,7 +17,8 @@ ghost use lib.ListN.{length};
 ghost use Rattle.positions.specs.Member.{has, Is};
 ghost use Rattle.cells.specs.Shares.{longest, HasRow};
 ghost use Rattle.cells.specs.Ready.{readyProperty};
-ghost use Rattle.properties.specs.Shapes.{WordsAt, Satisfying, Following};
+ghost use Rattle.cells.specs.Bits.{negatedBit, impliesBit, nextBit};
+ghost use Rattle.properties.specs.Shapes.{told, Sets, WordsAt, Satisfying, Following};
 
 // A property's words: the suffixes that satisfy it with no tail, with a ⊤ tail and with a ⊥ tail.
 pub struct Suffixes {
@@ -39,7 +40,7 @@ fn three_at(rows: &[u64], p: usize) -> Suffixes
 }
 
 // A match that is not empty: inside the record or, with a ⊤ tail, on into its letters.
-fn strong_of(rows: &[u64], n: usize, a: usize) -> Suffixes
+pub fn strong_of(rows: &[u64], n: usize, a: usize) -> Suffixes
     requires { ⌜ HasRow (length (now rows)) a × (n ≤ longest) ⌝ }
     ensures { λ r. ⌜ Satisfying (now (rows .entry)) n (PropertyOp.Strong a) r ⌝ }
 {
@@ -52,7 +53,7 @@ fn strong_of(rows: &[u64], n: usize, a: usize) -> Suffixes
 }
 
 // The longest prefix, followed by ⊤, decides; at the end of a record with no tail there is no prefix to ask.
-fn weak_of(rows: &[u64], n: usize, a: usize) -> Suffixes
+pub fn weak_of(rows: &[u64], n: usize, a: usize) -> Suffixes
     requires { ⌜ HasRow (length (now rows)) a × (n ≤ longest) ⌝ }
     ensures { λ r. ⌜ Satisfying (now (rows .entry)) n (PropertyOp.Weak a) r ⌝ }
 {
@@ -66,41 +67,34 @@ fn weak_of(rows: &[u64], n: usize, a: usize) -> Suffixes
 }
 
 // The bar of a word swaps the tails: not P with a ⊤ tail asks P with a ⊥ tail.
-fn not_of(rows: &[u64], n: usize, p: usize) -> Suffixes
-    requires { ⌜ HasRow (length (now rows)) p × (n ≤ longest) ⌝ }
-    ensures { λ r. ⌜ Satisfying (now (rows .entry)) n (PropertyOp.Negated p) r ⌝ }
+pub fn not_of(p: Suffixes, n: usize) -> Suffixes
+    requires { ⌜ n ≤ longest ⌝ }
+    ensures { λ r. ⌜ Sets (negatedBit n (told p)) r ⌝ }
 {
-    let asked = three_at(rows, p);
     Suffixes {
-        neutral: asked.neutral.others(n),
-        weak: asked.strong.others(n),
-        strong: asked.weak.others(n),
+        neutral: p.neutral.others(n),
+        weak: p.strong.others(n),
+        strong: p.weak.others(n),
     }
 }
 
-fn any_of(rows: &[u64], n: usize, p: usize, q: usize) -> Suffixes
-    requires { ⌜ HasRow (length (now rows)) p × HasRow (length (now rows)) q ⌝ }
-    ensures { λ r. ⌜ Satisfying (now (rows .entry)) n (PropertyOp.AnyOf p q) r ⌝ }
+pub fn any_of(p: Suffixes, q: Suffixes) -> Suffixes
+    ensures { λ r. ⌜ Sets (λ t k. told p t k || told q t k) r ⌝ }
 {
-    let first = three_at(rows, p);
-    let second = three_at(rows, q);
     Suffixes {
-        neutral: first.neutral.joined(second.neutral),
-        weak: first.weak.joined(second.weak),
-        strong: first.strong.joined(second.strong),
+        neutral: p.neutral.joined(q.neutral),
+        weak: p.weak.joined(q.weak),
+        strong: p.strong.joined(q.strong),
     }
 }
 
-fn both_of(rows: &[u64], n: usize, p: usize, q: usize) -> Suffixes
-    requires { ⌜ HasRow (length (now rows)) p × HasRow (length (now rows)) q ⌝ }
-    ensures { λ r. ⌜ Satisfying (now (rows .entry)) n (PropertyOp.BothOf p q) r ⌝ }
+pub fn both_of(p: Suffixes, q: Suffixes) -> Suffixes
+    ensures { λ r. ⌜ Sets (λ t k. told p t k && told q t k) r ⌝ }
 {
-    let first = three_at(rows, p);
-    let second = three_at(rows, q);
     Suffixes {
-        neutral: first.neutral.common(second.neutral),
-        weak: first.weak.common(second.weak),
-        strong: first.strong.common(second.strong),
+        neutral: p.neutral.common(q.neutral),
+        weak: p.weak.common(q.weak),
+        strong: p.strong.common(q.strong),
     }
 }
 
@@ -128,14 +122,13 @@ fn following(rows: &[u64], n: usize, a: usize, p: Suffixes) -> Suffixes
 }
 
 // The left side matches on the bar of the word: with a ⊥ tail it may end among letters ⊤, and P is then asked in the tail.
-fn implies_of(rows: &[u64], n: usize, a: usize, p: usize) -> Suffixes
-    requires { ⌜ HasRow (length (now rows)) a × HasRow (length (now rows)) p × (n ≤ longest) ⌝ }
-    ensures { λ r. ⌜ Satisfying (now (rows .entry)) n (PropertyOp.Implies a p) r ⌝ }
+pub fn implies_of(rows: &[u64], n: usize, a: usize, p: Suffixes) -> Suffixes
+    requires { ⌜ HasRow (length (now rows)) a × (n ≤ longest) ⌝ }
+    ensures { λ r. ⌜ Sets (impliesBit (now (rows .entry)) n a (told p)) r ⌝ }
 {
-    let asked = three_at(rows, p);
-    let mut inside = following(rows, n, a, asked);
+    let mut inside = following(rows, n, a, p);
     let onward = word_at(rows, a, TOP_WORD);
-    let holds = asked.strong.has(n);
+    let holds = p.strong.has(n);
     let strong = inside.strong;
     inside.strong = strong.without(onward.only_if(!holds));
     inside
@@ -149,15 +142,14 @@ fn next_in_tail(s: PositionSet, n: usize) -> PositionSet
     s.down().joined(s.from(n))
 }
 
-fn next_of(rows: &[u64], n: usize, p: usize) -> Suffixes
-    requires { ⌜ HasRow (length (now rows)) p × (n ≤ longest) ⌝ }
-    ensures { λ r. ⌜ Satisfying (now (rows .entry)) n (PropertyOp.Next p) r ⌝ }
+pub fn next_of(p: Suffixes, n: usize) -> Suffixes
+    requires { ⌜ n ≤ longest ⌝ }
+    ensures { λ r. ⌜ Sets (nextBit n (told p)) r ⌝ }
 {
-    let asked = three_at(rows, p);
     Suffixes {
-        neutral: asked.neutral.down().with(n),
-        weak: next_in_tail(asked.weak, n),
-        strong: next_in_tail(asked.strong, n),
+        neutral: p.neutral.down().with(n),
+        weak: next_in_tail(p.weak, n),
+        strong: next_in_tail(p.strong, n),
     }
 }
 
@@ -181,11 +173,11 @@ pub fn suffixes_of(rows: &[u64], n: usize, op: PropertyOp) -> Suffixes
     match op {
         PropertyOp::Strong(a) => strong_of(rows, n, a),
         PropertyOp::Weak(a) => weak_of(rows, n, a),
-        PropertyOp::Negated(p) => not_of(rows, n, p),
-        PropertyOp::AnyOf(p, q) => any_of(rows, n, p, q),
-        PropertyOp::BothOf(p, q) => both_of(rows, n, p, q),
-        PropertyOp::Implies(a, p) => implies_of(rows, n, a, p),
-        PropertyOp::Next(p) => next_of(rows, n, p),
+        PropertyOp::Negated(p) => not_of(three_at(rows, p), n),
+        PropertyOp::AnyOf(p, q) => any_of(three_at(rows, p), three_at(rows, q)),
+        PropertyOp::BothOf(p, q) => both_of(three_at(rows, p), three_at(rows, q)),
+        PropertyOp::Implies(a, p) => implies_of(rows, n, a, three_at(rows, p)),
+        PropertyOp::Next(p) => next_of(three_at(rows, p), n),
         PropertyOp::Until(p, q) => until_of(rows, n, p, q),
         PropertyOp::Ticked(_, _) => {
             let none = PositionSet::empty();

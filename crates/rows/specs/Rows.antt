@@ -53,7 +53,7 @@ filled s xs d k = rowsOf s xs k ++ drop (share * k) d
 
 -- the operands' rows lie within the first w words
 abbrev pub Ready : ℕ → Node → Type 0
-Ready w (Boolean op) = readyBoolean w op
+Ready w (Boolean op) = readyBoolean w share op
 Ready w (Sequence op) = readySequence w op
 Ready w (Property op) = readyProperty w op
 

@@ -36,7 +36,7 @@ fn put_row(ws: &mut [u64], samples: &[u64], k: usize, node: Node)
     let at = SHARE * k;
     match node {
         Node::Boolean(op) => {
-            let set = boolean_set(&ws[..at], samples, op);
+            let set = boolean_set(&ws[..at], SHARE, samples, op);
             let none = PositionSet::empty();
             let words = Suffixes {
                 neutral: set,

@@ -1,5 +1,5 @@
 -- A run of P that leads up to Q, by doubling the distance that is looked at. Assumes nothing.
-use mathlib.Core.Path.{_≡_, refl, sym, ap, ap₂, _∙_, fun-ext}
+use mathlib.Core.Path.{_≡_, refl, sym, ap, ap₂, _∙_}
 use mathlib.Core.Logic.{_⊎_, inl, inr, ⊎-elim}
 use mathlib.Core.Bool.{Bool, _||_, _&&_, or-false, and-true}
 use Prim.Native.Nat.{ℕ, suc, _+_, _-_, _^_, _≤_, _<_}
@@ -8,7 +8,7 @@ use native.Mathlib.Omega.{arith}
 use lib.Dec.{T}
 use lib.Pow.{pow-pos, pow-mono, pow-lt}
 use Rattle.telling.specs.Tells.{Tells, some, every}
-use Rattle.telling.proofs.Telling.{is-map, is-test, is-and, is-and-then, is-or, is-some, is-every, same-test, side}
+use Rattle.telling.proofs.Telling.{is-map, is-test, is-and, is-or, is-some, is-every, same-test, side}
 use Rattle.positions.specs.Member.{has, Is}
 use Rattle.runs.specs.declared.Led.{Led}
 use Rattle.runs.specs.Runs.{leadsUp, led, Further}
@@ -111,18 +111,3 @@ power-more d h l = record { times = suc (h .times); most = lt-of-not-le (λ (g :
 -- the loop has ended
 pub led-all : (l : Led) (d : ℕ) (x : Led) → Power d → 64 ≤ d → Led-by l d x → Is (x .out .bits) (led l)
 led-all l d x p g h k = h .out k ∙ rw (power-last d p g) (reach-is _ _ k)
-
--- ---- sets that are known by their places
-
-pub led-as : (P Q : ℕ → Bool) (x y z : ℕ) → Is x P → Is y Q → Is z (leadsUp (has x) (has y)) → Is z (leadsUp P Q)
-led-as P Q x y z ex ey ez k = ez k ∙ ap₂ (λ f g. leadsUp f g k) (fun-ext ex) (fun-ext ey)
-
--- ---- what leading up tells: B holds of a place below n that is led up to, and A of each place before it
-
-pub is-leading : {P Q : ℕ → Bool} {A B : ℕ → Type 0} (n i : ℕ) → n ≤ 63 → ((j : ℕ) → B j → j < n) → ((j : ℕ) → Tells (Q j) (B j))
-    → ((k : ℕ) → k < n → Tells (P k) (A k)) → Tells (leadsUp P Q i) ((j : ℕ) × (i ≤ j) × B j × ((k : ℕ) → i ≤ k → k < j → A k))
-unfolding leadsUp
-is-leading n i short below q p =
-    is-map (is-some i 64 (λ j u v. is-and-then (q j) (λ b. let l = below j b in is-every i (j - i) (λ k a c. p k (omega arith)))))
-    (λ r. let (j, u, v, (b, e)) = r in (j, u, b, λ k a c. e k a (omega arith)))
-    (λ r. let (j, u, b, e) = r in let l = below j b in (j, u, omega arith, (b, λ k a c. e k a (omega arith))))

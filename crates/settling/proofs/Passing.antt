@@ -24,7 +24,8 @@ use Rattle.rewrite.specs.Keeps.{Keeps}
 use Rattle.clocks.proofs.Timing.{clocks-unique}
 use Rattle.rewrite.proofs.Theorems.{rewriting-keeps}
 use Rattle.rewrite.proofs.Accepting.{count-new}
-use Rattle.settling.specs.Refusals.{wrongRoot, judgeRefusals, endsRefusals}
+use Rattle.judgement.specs.Refusals.{wrongRoot}
+use Rattle.settling.specs.Refusals.{judgeRefusals, endsRefusals}
 
 module _ (s : List ℕ) (x : Refusal) (rest : List Refusal) (n : NotGiven (Check.refusals s ++ (x ∷ tooMany s ∷ rest))) where
   parts : NotGiven (Check.refusals s) × NotGiven (x ∷ tooMany s ∷ rest)

@@ -15,7 +15,8 @@ use Rattle.writing.specs.Tables.{newTable}
 use Rattle.rewrite.specs.Rewrites.{OfClocks, Rewrites}
 use Rattle.rewrite.specs.Computed.{Renumbered}
 use Rattle.cells.specs.Shares.{longest}
-use Rattle.settling.specs.Refusals.{wrongRoot, endsRefusals}
+use Rattle.judgement.specs.Refusals.{wrongRoot}
+use Rattle.settling.specs.Refusals.{endsRefusals}
 
 -- after a table's own nine: 12, where `wrong` is the sort that the root must not have, and then as match ends
 abbrev pub ownRefusals : List ℕ → ℕ → ℕ → ℕ → ℕ → List Refusal

@@ -1,23 +1,14 @@
 -- Document 01, "Numbers of refusal", for the judge and for match ends: those that both give, and the order of each. n is the number of samples, and `words`
 -- that of the words lent. Assumes nothing.
-use mathlib.Core.Path.{_≡_}
 use mathlib.Core.List.{List, [], _∷_, _++_}
 use Prim.Native.Nat.{ℕ, _*_, _<_}
 use Rattle.refusal.specs.First.{Refusal, when}
 use Rattle.nodes.specs.Operators.{sequence, property}
-use Rattle.nodes.specs.Nodes.{sortAt, root}
 use Rattle.table.specs.Check as Check
 use Rattle.numbers.specs.Numbers.{newCount}
 use Rattle.rewrite.specs.Rewrites.{OfClocks, tooMany}
-use Rattle.cells.specs.Shares.{share, longest}
-
--- a root of the wrong sort
-abbrev pub wrongRoot : List ℕ → ℕ → Refusal
-wrongRoot s sort = when 12 (sortAt s (root s) ≡ sort)
-
--- more than 63 samples
-abbrev pub tooLong : ℕ → Refusal
-tooLong n = when 10 (longest < n)
+use Rattle.cells.specs.Shares.{share}
+use Rattle.judgement.specs.Refusals.{wrongRoot, tooLong}
 
 -- start above n
 abbrev pub startAbove : ℕ → ℕ → Refusal

@@ -54,7 +54,7 @@ along : {A : Type 0} (R : Node → A → Type 0) {w v : Node} {t : A} → w ≡ 
 along R {t = t} e h = subst (λ v. R v t) (sym e) h
 
 module _ {T : ℕ → Node} where
-  readB : {k : ℕ} {b : Bexp Atom} → BooleanAt T k b → ReadB T (T k) b
+  pub readB : {k : ℕ} {b : Bexp Atom} → BooleanAt T k b → ReadB T (T k) b
   readB (b-const e) = along (ReadB T) e refl
   readB (b-sig e) = along (ReadB T) e refl
   readB (b-risen e) = along (ReadB T) e refl

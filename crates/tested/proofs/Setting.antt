@@ -7,11 +7,10 @@ use Prim.Native.Nat.{ℕ, zero, suc, _+_, _-_, _^_, _<_, _≤_}
 use native.Mathlib.Omega.{arith}
 use native.Mathlib.Nat.{eq-or-lt-of-le, le-of-suc-le-suc, not-suc-le-zero}
 use native.Mathlib.Numerals.{add-one}
-use lib.Dec.{eqb, leb, ltb}
 use lib.ListN.{length, getD, set, replicate, length-append, length-set, getD-replicate, List·getD-append, List·getD-eq-default}
 use lib.Seq.{getD-at, getD-set-same, getD-set-other}
 use Rattle.telling.specs.Tells.{some}
-use Rattle.telling.proofs.Telling.{some-same, side}
+use Rattle.telling.proofs.Telling.{side}
 use Rattle.positions.specs.Member.{has, Is}
 use Rattle.refusal.specs.Heading.{count}
 use Rattle.nodes.specs.declared.Raw.{Raw}
@@ -23,13 +22,11 @@ use Rattle.nodes.specs.declared.PropertyOp.{PropertyOp}
 use Rattle.nodes.specs.Operators.{nodeOf, Decodes}
 use Rattle.nodes.specs.Nodes.{rawAt, nodeAt}
 use Rattle.nodes.specs.Computed.{namedBy}
-use Rattle.cells.specs.Bits.{lastLetter}
+use Rattle.cells.specs.Bits.{startsInto}
 use Rattle.cells.specs.Stored.{set64}
-use Rattle.cells.proofs.Loops.{taken-more}
 use Rattle.cells.proofs.Laying.{word-is}
-use Rattle.runs.specs.Runs.{leadsUp}
-use Rattle.runs.proofs.Leading.{led-as}
-use Rattle.tested.specs.Computed.{Standing, standing, setOf, sequenceThere, propertyThere, nodeThere, isTick, firstTick, nextTested, untilTested, startsInto, impliesTested, letterMatches, propertyTested, nodeTested, standingOf, setFrom, setsBelow, testedIn, Testing}
+use Rattle.ticking.specs.Ticks.{tickRun, secondTick}
+use Rattle.tested.specs.Computed.{Standing, standing, setOf, sequenceThere, propertyThere, nodeThere, isTick, nextTested, untilTested, impliesTested, letterMatches, propertyTested, nodeTested, standingOf, setFrom, setsBelow, testedIn, Testing}
 
 -- ---- what is looked up
 
@@ -79,42 +76,23 @@ sequence-ready w at v node o dec e h = subst (nodeThere w at) (sym (dec .made) �
 pub property-ready : (w : ℕ) (at : Standing) (v : Raw) (node : Node) (o : PropertyOp) → Decodes v node → node ≡ Property o → nodeThere w at (nodeOf v) → propertyThere w at o
 property-ready w at v node o dec e h = subst (nodeThere w at) (sym (dec .made) ∙ e) h
 
--- ---- the first tick
+-- ---- the second tick
 
-pub first-made : (t n g u v z : ℕ) → Is u (λ k. leb k n && not (has t k)) → Is v (λ k. has t k && has g k) → Is z (leadsUp (has u) (has v)) → Is z (firstTick (has t) n (has g))
-unfolding firstTick
-first-made t n g u v z eu ev ez = led-as _ _ u v z eu ev ez
-
--- the ticks and the set are known by their places
-pub first-as : (T G : ℕ → Bool) (n t g z : ℕ) → Is t T → Is g G → Is z (firstTick (has t) n (has g)) → Is z (firstTick T n G)
-first-as T G n t g z et eg ez k = ez k ∙ ap₂ (λ f h. firstTick f n h k) (fun-ext et) (fun-ext eg)
-
--- and so the second tick is in the set p, where f has the positions from which the first is, and d those of f one place down
-pub second-made : (T : ℕ → Bool) (n t p f d z : ℕ) → Is t T → Is f (firstTick (has t) n (has p)) → Is d (λ k. has f (suc k)) → Is z (firstTick (has t) n (has d))
-    → Is z (firstTick T n (λ k. firstTick T n (has p) (suc k)))
-second-made T n t p f d z et ef ed ez = first-as T _ n t d z et (λ k. ed k ∙ first-as T (has p) n t p f et (λ k. refl) ef (suc k)) ez
+-- the ticks are known by their places
+pub second-as : (T : ℕ → Bool) (n t g z : ℕ) → Is t T → Is z (secondTick (has t) n false (has g)) → Is z (secondTick T n false (has g))
+second-as T n t g z et ez k = ez k ∙ ap (λ f. secondTick f n false (has g) k) (fun-ext et)
 
 -- ---- until: p and q are the words of its two sides
 
-pub until-made : (n t e u v p q h o w out z : ℕ) → u ≡ p → v ≡ q → Is h (λ k. has u k && not (has v k)) → Is o (λ k. leb k n && not (has t k)) → Is w (λ k. has h k || has o k)
-    → Is out (λ k. has t k && has e k) → Is z (leadsUp (has w) (has out))
-    → Is z (leadsUp (λ k. (has p k && not (has q k)) || (leb k n && not (has t k))) (λ k. has t k && has e k))
-until-made n t e u v p q h o w out z eu ev eh eo ew eout =
-    led-as _ _ w out z (λ k. ew k ∙ ap₂ _||_ (eh k ∙ ap₂ (λ x y. has x k && not (has y k)) eu ev) (eo k)) eout
+pub until-made : (n t e u v p q h z : ℕ) → u ≡ p → v ≡ q → Is h (λ k. has u k && not (has v k)) → Is z (tickRun (has t) n false (has h) (has e))
+    → Is z (tickRun (has t) n false (λ k. has p k && not (has q k)) (has e))
+until-made n t e u v p q h z eu ev eh ez k = ez k ∙ ap (λ f. tickRun (has t) n false f (has e) k) (fun-ext (λ k. eh k ∙ ap₂ (λ x y. has x k && not (has y k)) eu ev))
 
 -- the ticks, and the set of either side, are known by their places
 pub until-as : (rows : List ℕ) (n : ℕ) (T E : ℕ → Bool) (t e z a b a′ b′ : ℕ) → Is t T → Is e E → a ≡ a′ → b ≡ b′ → Is z (untilTested rows n (has t) a b (has e)) → Is z (untilTested rows n T a′ b′ E)
 until-as rows n T E t e z a b a′ b′ et ee ea eb ez k = ez k ∙ (λ i. untilTested rows n (fun-ext et i) (ea i) (eb i) (fun-ext ee i) k)
 
--- ---- a match whose last letter is in the set
-
--- of the places below i, x has those from which some match of row a has its last letter in y
-abbrev pub Met : List ℕ → ℕ → ℕ → ℕ → ℕ → Type 0
-Met rows a i y x = Is x (λ j. ltb j i && some (λ l. lastLetter rows a j l && has y l) 0 64)
-
-pub met-more : (rows : List ℕ) (a i y x last x′ : ℕ) (t : Bool) → Met rows a i y x → Is last (lastLetter rows a i)
-    → t ≡ some (λ l. has last l && has y l) 0 64 → Is x′ (λ j. has x j || (t && eqb j i)) → Met rows a (i + 1) y x′
-met-more rows a i y x last x′ t ex el et e = taken-more _ i x x′ t ex (et ∙ some-same 0 64 (λ l u v. ap (λ b. b && has y l) (el l))) e
+-- ---- R |-> P
 
 -- the set r is empty, or has a place
 pub walk-made : (rows : List ℕ) (n a r p z : ℕ) (t : Bool) → t ≡ not (some (has r) 0 64) → t ≡ true → Is z (startsInto rows n a (has p)) → Is z (impliesTested rows n a (has r) (has p))

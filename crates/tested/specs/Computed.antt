@@ -1,5 +1,5 @@
 -- The positions from which each node of a clocked table is tested, place by place, from the rows of the rewritten table and the sets of the nodes below.
--- `judge/proofs` shows that each rule is what document 02 says. n is the number of samples. Assumes nothing.
+-- `rowmeaning/proofs` shows that each rule is what document 02 says. n is the number of samples. Assumes nothing.
 use mathlib.Core.Path.{_≡_}
 use mathlib.Core.Bool.{Bool, false, not, cond, _||_, _&&_}
 use mathlib.Core.List.{List, [], _∷_, _++_}
@@ -19,9 +19,9 @@ use Rattle.nodes.specs.declared.PropertyOp.the-variants.{Strong, Weak, Negated,
 use Rattle.nodes.specs.Nodes.{rawAt, nodeAt}
 use Rattle.nodes.specs.Computed.{namedBy}
 use Rattle.cells.specs.Shares.{longest, bitIn, HasRow}
-use Rattle.cells.specs.Bits.{lastLetter}
+use Rattle.cells.specs.Bits.{startsInto}
 use Rattle.cells.specs.Stored.{set64}
-use Rattle.runs.specs.Runs.{leadsUp}
+use Rattle.ticking.specs.Ticks.{tickRun, secondTick}
 
 -- what a node names, by the rows that stand for it: its clock with the row of the condition, and the rows of its operands
 pub record Standing : Type 0 where
@@ -48,21 +48,13 @@ setOf sets v = has (getD sets (namedBy v) 0)
 abbrev pub isTick : List ℕ → ℕ → ℕ → ℕ → ℕ → Bool
 isTick rows n clock c i = cond (eqb clock 255) (ltb i n) (bitIn rows c 0 i)
 
--- from i on, the first position of T is there and in G
-unfoldable pub firstTick : (ℕ → Bool) → ℕ → (ℕ → Bool) → ℕ → Bool
-firstTick T n G = leadsUp (λ k. leb k n && not (T k)) (λ k. T k && G k)
-
 abbrev pub nextTested : List ℕ → ℕ → ℕ → ℕ → (ℕ → Bool) → ℕ → Bool
 nextTested rows n clock c P i =
-    cond (eqb clock 255) (P (suc i)) (firstTick (isTick rows n clock c) n (λ k. firstTick (isTick rows n clock c) n P (suc k)) i)
+    cond (eqb clock 255) (P (suc i)) (secondTick (isTick rows n clock c) n false P i)
 
 -- T: the ticks; a and b: the rows of the two sides; E: either side is tested
 abbrev pub untilTested : List ℕ → ℕ → (ℕ → Bool) → ℕ → ℕ → (ℕ → Bool) → ℕ → Bool
-untilTested rows n T a b E = leadsUp (λ k. (bitIn rows a 0 k && not (bitIn rows b 0 k)) || (leb k n && not (T k))) (λ k. T k && E k)
-
--- from i some match of row a, not empty, has its last letter in P
-abbrev pub startsInto : List ℕ → ℕ → ℕ → (ℕ → Bool) → ℕ → Bool
-startsInto rows n a P i = leb i n && some (λ l. lastLetter rows a i l && P l) 0 64
+untilTested rows n T a b E = tickRun T n false (λ k. bitIn rows a 0 k && not (bitIn rows b 0 k)) E
 
 -- R, where it has a place, is the set of a letter
 abbrev pub impliesTested : List ℕ → ℕ → ℕ → (ℕ → Bool) → (ℕ → Bool) → ℕ → Bool

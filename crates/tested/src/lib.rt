@@ -1,6 +1,6 @@
 // Whether a record tests the property at the root of a clocked table: one set of positions a node, upwards, from the rows of the rewritten table.
 use cells::all_samples;
-use cells::last_letters;
+use cells::starts_into;
 use cells::word_at;
 use clocks::UNCLOCKED;
 use nodes::Node;
@@ -12,8 +12,8 @@ use nodes::named;
 use nodes::node_at;
 use positions::PositionSet;
 use refusal::wide;
-use runs::Led;
-use runs::lead;
+use ticking::second_tick;
+use ticking::tick_run;
 ghost use mathlib.Core.Path.{_≡_};
 ghost use Prim.Native.Nat.{_≤_};
 ghost use lib.ListN.{length, getD};
@@ -22,7 +22,7 @@ ghost use Rattle.refusal.specs.Heading.{count};
 ghost use Rattle.nodes.specs.Operators.{nodeOf};
 ghost use Rattle.nodes.specs.Computed.{namedBy};
 ghost use Rattle.cells.specs.Shares.{longest, HasRow};
-ghost use Rattle.tested.specs.Computed.{isTick, firstTick, nextTested, untilTested, startsInto, impliesTested, propertyTested, letterMatches, nodeTested, standing, setOf, clockThere, sequenceThere, propertyThere, nodeThere, testedIn, Testing};
+ghost use Rattle.tested.specs.Computed.{isTick, nextTested, untilTested, impliesTested, propertyTested, letterMatches, nodeTested, standing, setOf, clockThere, sequenceThere, propertyThere, nodeThere, testedIn, Testing};
 
 // The positions at which a property under the clock looks: the ticks, where row c has the condition, and with no clock all samples.
 fn ticks_of(rows: &[u64], n: usize, clock: u8, c: usize) -> PositionSet
@@ -35,17 +35,6 @@ fn ticks_of(rows: &[u64], n: usize, clock: u8, c: usize) -> PositionSet
     word_at(rows, c, 0)
 }
 
-// The positions from which the first tick, at the position itself or later, is in the set.
-fn first_tick(ticks: PositionSet, n: usize, set: PositionSet) -> PositionSet
-    requires { ⌜ n ≤ longest ⌝ }
-    ensures { λ r. ⌜ Is (r .bits) (firstTick (has (ticks .bits)) n (has (set .bits))) ⌝ }
-{
-    lead(Led {
-        runs: ticks.others(n),
-        out: ticks.common(set),
-    })
-}
-
 // Of nexttime P: P is tested one position on; under a clock at the second tick.
 fn next_set(rows: &[u64], n: usize, clock: u8, c: usize, p: PositionSet) -> PositionSet
     requires { ⌜ clockThere (length (now rows)) clock c × (n ≤ longest) ⌝ }
@@ -55,7 +44,7 @@ fn next_set(rows: &[u64], n: usize, clock: u8, c: usize, p: PositionSet) -> Posi
         return p.down();
     }
     let ticks = ticks_of(rows, n, clock, c);
-    first_tick(ticks, n, first_tick(ticks, n, p).down())
+    second_tick(ticks, n, false, p)
 }
 
 // Of P until Q, of rows a and b: at a tick one of the two is tested, and at each earlier one P holds and Q does not.
@@ -71,24 +60,7 @@ fn until_set(
     ensures { λ r. ⌜ Is (r .bits) (untilTested (now (rows .entry)) n (has (ticks .bits)) a b (has (either .bits))) ⌝ }
 {
     let holds = word_at(rows, a, 0).without(word_at(rows, b, 0));
-    lead(Led {
-        runs: holds.joined(ticks.others(n)),
-        out: ticks.common(either),
-    })
-}
-
-// The starts, up to n, of the matches of row a that are not empty and have their last letter in the set.
-fn starts_into(rows: &[u64], n: usize, a: usize, p: PositionSet) -> PositionSet
-    requires { ⌜ HasRow (length (now rows)) a × (n ≤ longest) ⌝ }
-    ensures { λ r. ⌜ Is (r .bits) (startsInto (now (rows .entry)) n a (has (p .bits))) ⌝ }
-{
-    let mut out = PositionSet::empty();
-    let mut i: usize = 0;
-    while i <= n {
-        out = out.with_if(i, last_letters(rows, a, i).meets(p));
-        i += 1;
-    }
-    out
+    tick_run(ticks, n, false, holds, either)
 }
 
 // Of R |-> P: some match of R, not empty, has its last letter where P is tested. A letter with no clock has the samples that it matches in its own set.
@@ -97,7 +69,7 @@ fn implies_set(rows: &[u64], n: usize, a: usize, r: PositionSet, p: PositionSet)
     ensures { λ out. ⌜ Is (out .bits) (impliesTested (now (rows .entry)) n a (has (r .bits)) (has (p .bits))) ⌝ }
 {
     if r.is_empty() {
-        return starts_into(rows, n, a, p);
+        return starts_into(rows, a, n, p);
     }
     r.common(p)
 }

@@ -1,13 +1,7 @@
--- `properties::both_of` meets its contract: each word has the places of both operands' words. Assumes nothing.
+-- `properties::both_of` meets its contract: each set has the places of both operands'. Assumes nothing.
 use borrow.Author.Needs.{needs}
 use Rattle.properties.proofs.both_of.Statement.{statement}
 use Rattle.properties.proofs.both_of.Tie as tie
 
-returns : tie.Need-returns
-returns c =
-    let first = c .before .before .before .before .three-at .ensures in
-    let second = c .before .before .before .three-at2 .ensures in
-    record { neutral = λ k. simp (c .before .before .common .ensures k, first .neutral, second .neutral); weak = λ k. simp (c .before .common2 .ensures k, first .weak, second .weak); strong = λ k. simp (c .common3 .ensures k, first .strong, second .strong) }
-
 pub both-of-spec : {M : Type 1} → statement M
-both-of-spec = tie.close (tie.spec (λ c κs. search needs) (λ c κs. search needs) (λ c κs. search needs) (λ c κs. search needs) (λ c κs. search needs) returns)
+both-of-spec = tie.close (tie.spec (λ c κs. search needs) (λ c κs. search needs) (λ c κs. search needs) (λ c. record { neutral = c .before .before .common .ensures; weak = c .before .common2 .ensures; strong = c .common3 .ensures }))

@@ -5,8 +5,7 @@ use Rattle.properties.proofs.next_of.Tie as tie
 
 returns : tie.Need-returns
 returns c =
-    let asked = c .before .before .before .before .three-at .ensures in
-    record { neutral = λ k. simp (c .before .before .with .ensures k, c .before .before .before .down .ensures k, asked .neutral); weak = λ k. simp (c .before .next-in-tail .ensures k, asked .weak); strong = λ k. simp (c .next-in-tail2 .ensures k, asked .strong) }
+    record { neutral = λ k. simp (c .before .before .with .ensures k, c .before .before .before .down .ensures k); weak = c .before .next-in-tail .ensures; strong = c .next-in-tail2 .ensures }
 
 pub next-of-spec : {M : Type 1} → statement M
-next-of-spec = tie.close (tie.spec (λ c κs. search needs) (λ c κs. search needs) (λ c κs. search needs) (λ c κs. search needs) (λ c κs. search needs) returns)
+next-of-spec = tie.close (tie.spec (λ c κs. search needs) (λ c κs. search needs) (λ c κs. search needs) (λ c κs. search needs) returns)

@@ -49,7 +49,7 @@ put-row-spec =
     (λ c. search needs)
     (λ c. search needs)
     (λ c. below (c .before .before .before .before))
-    (λ c κs. let node = c .before .before in (ready (node .before .before) _ (node .node .given .1), search needs))
+    (λ c κs. let node = c .before .before in (search needs, ready (node .before .before) _ (node .node .given .1), search needs))
     (λ c κs. search needs)
     (λ c κs. search needs)
     (λ c. search needs)

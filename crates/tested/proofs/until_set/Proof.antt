@@ -12,13 +12,7 @@ until-set-spec =
     (λ c κs. search needs)
     (λ c κs. search needs)
     (λ c κs. search needs)
-    (λ c κs. search needs)
-    (λ c κs. search needs)
-    (λ c κs. search needs)
     (λ c.
-    let out = c .before in
-    let joined = out .before in
-    let others = joined .before in
-    let holds = others .before in
+    let holds = c .before in
     let second = holds .before in
-    until-made _ _ _ _ _ _ _ _ _ _ _ _ (second .before .word-at .ensures) (second .word-at2 .ensures) (holds .without .ensures) (others .others .ensures) (joined .joined .ensures) (out .common .ensures) (c .lead .ensures)))
+    until-made _ _ _ _ _ _ _ _ _ (second .before .word-at .ensures) (second .word-at2 .ensures) (holds .without .ensures) (c .tick-run .ensures)))

@@ -1,0 +1,1 @@
+-- Nothing is defined here: the theorems speak of the two judges' statements.

@@ -1,0 +1,1 @@
+// That the two judges agree: theorems about their answers, and no code.

@@ -1,0 +1,2 @@
+-- Laws of the sets of a table's booleans.
+pub mod Filling

@@ -1,0 +1,2 @@
+-- The sets of a table's booleans.
+pub mod Conditions

@@ -1,0 +1,2 @@
+-- What a node's row is by the rows of its operands.
+pub mod Steps

@@ -1,0 +1,2 @@
+-- What a clock changes, place by place.
+pub mod Ticks

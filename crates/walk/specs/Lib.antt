@@ -1,0 +1,2 @@
+-- What a call of the plain engine answers.
+pub mod Walk
