@@ -13,6 +13,9 @@ pub fn answer(case: &Case) -> Answer {
             samples,
             words,
         } => judge(table, samples, lent_workspace(*words)),
+        Case::Plain { table, samples } => {
+            Answer::Plain(judgement(raw::plain_judge(table, samples)))
+        }
         Case::Ends {
             table,
             samples,
@@ -46,13 +49,17 @@ fn rewrite(table: &[u8], mut out: Vec<u8>) -> Answer {
 }
 
 fn judge(table: &[u8], samples: &[u64], mut workspace: Vec<u64>) -> Answer {
-    let judgement = raw::judge(table, samples, &mut workspace);
-    let answer = second::Judgement {
+    let answer = judgement(raw::judge(table, samples, &mut workspace));
+    Answer::Judge(answer, workspace)
+}
+
+/// What either judge of the library answered.
+fn judgement(judgement: raw::Judgement) -> second::Judgement {
+    second::Judgement {
         verdict: verdict(judgement.verdict),
         level: judgement.level,
         tested: judgement.tested,
-    };
-    Answer::Judge(answer, workspace)
+    }
 }
 
 fn match_ends(table: &[u8], samples: &[u64], start: usize, mut workspace: Vec<u64>) -> Answer {

@@ -3,9 +3,12 @@ use crate::run::USUAL;
 use second::{Answer, Case};
 use std::fmt;
 
-const KINDS: [&str; 6] = ["check", "read", "rewrite", "judge", "ends", "program"];
+const KINDS: [&str; 7] = [
+    "check", "read", "rewrite", "judge", "plain", "ends", "program",
+];
 const READ: usize = 1;
 const JUDGE: usize = 3;
+const PLAIN: usize = 4;
 const TESTED: [&str; 2] = ["no", "yes"];
 
 /// What accepted tables are told apart by: their version, and whether some node asks if a signal has risen or has fallen.
@@ -20,23 +23,26 @@ const DECIDING: [(&str, u8); 4] = [
 ];
 
 /// The refusals that each kind can give: a run of the usual size has each of them, some about 50 times.
-const REFUSALS: [&[usize]; 6] = [
+const REFUSALS: [&[usize]; 7] = [
     &[1, 2, 3, 4, 5, 6, 7, 8, 9],
     &[1, 2, 3, 5, 10, 15],
     &[1, 2, 3, 4, 5, 6, 7, 8, 9, 13, 15],
     &[1, 2, 3, 4, 5, 6, 7, 8, 9, 10, 11, 12, 13],
+    &[1, 2, 3, 4, 5, 6, 7, 8, 9, 10, 12],
     &[1, 2, 3, 4, 5, 6, 7, 8, 9, 10, 11, 12, 13, 14],
     &[1, 2, 3, 4, 5, 6, 7, 8, 9, 10, 12, 13],
 ];
 
-/// How many answers there were by kind and number, where 0 is an acceptance, and how many of the accepted had a table of each of TABLES. Of those judged, how many had each level, how many were tested, and how many of each with each of DECIDING.
+/// How many answers there were by kind and number, where 0 is an acceptance, and how many of the accepted had a table of each of TABLES. Of those judged, by either judge, how many had each level, how many were tested, and how many of each with each of DECIDING. Of those that the plain judge accepted and whose rewriting has too many nodes for the other, how many had each level and how many were tested.
 #[derive(Clone, Debug, Default, PartialEq, Eq)]
 pub struct Summary {
-    numbers: [[u64; 16]; 6],
-    tables: [[u64; 4]; 6],
+    numbers: [[u64; 16]; 7],
+    tables: [[u64; 4]; 7],
     levels: [u64; 4],
     tested: [u64; 2],
     decided: [[u64; 2]; 4],
+    past_levels: [u64; 4],
+    past_tested: [u64; 2],
 }
 
 /// What an answer says: the number of its refusal or 0, and the level and tested where it has them.
@@ -57,6 +63,10 @@ impl Summary {
         if let Some((level, tested)) = told.judged {
             self.levels[level] += 1;
             self.tested[usize::from(tested)] += 1;
+            if told.kind == PLAIN && is_past_13(table(case)) {
+                self.past_levels[level] += 1;
+                self.past_tested[usize::from(tested)] += 1;
+            }
             for (decided, (_, operator)) in self.decided.iter_mut().zip(DECIDING) {
                 decided[usize::from(tested)] += u64::from(has(table(case), operator));
             }
@@ -76,6 +86,8 @@ impl Summary {
             self.decided.as_flattened_mut(),
             other.decided.as_flattened(),
         );
+        sum(&mut self.past_levels, &other.past_levels);
+        sum(&mut self.past_tested, &other.past_tested);
     }
 
     /// How many cases were counted.
@@ -129,6 +141,12 @@ impl Summary {
                 ask(format!("with {name}, tested {tested}"), had, cases / 500);
             }
         }
+        for (level, had) in self.past_levels.iter().enumerate() {
+            ask(format!("past 13, level {level}"), *had, cases / 500);
+        }
+        for (tested, had) in TESTED.iter().zip(self.past_tested) {
+            ask(format!("past 13, tested {tested}"), had, cases / 500);
+        }
         lacking
     }
 }
@@ -145,9 +163,15 @@ fn table(case: &Case) -> &[u8] {
     match case {
         Case::Read { .. } => &[],
         Case::Check { table } | Case::Rewrite { table, .. } => table,
-        Case::Judge { table, .. } | Case::Ends { table, .. } => table,
+        Case::Judge { table, .. } | Case::Plain { table, .. } => table,
+        Case::Ends { table, .. } => table,
         Case::Program { input } => &input[..6 + 4 * usize::from(input[5])],
     }
+}
+
+/// Whether an accepted table's rewriting has too many nodes, by `second`.
+fn is_past_13(table: &[u8]) -> bool {
+    second::rewrite(table, &mut [0; 486]).verdict.number == 13
 }
 
 /// Whether some node of a table has an operator.
@@ -157,7 +181,7 @@ fn has(table: &[u8], operator: u8) -> bool {
 }
 
 /// The counts of all kinds together.
-fn of_any_kind<const N: usize>(by_kind: &[[u64; N]; 6]) -> [u64; N] {
+fn of_any_kind<const N: usize>(by_kind: &[[u64; N]; 7]) -> [u64; N] {
     let mut all = [0; N];
     for of_kind in by_kind {
         sum(&mut all, of_kind);
@@ -177,17 +201,16 @@ impl Told {
             Answer::Check(verdict) => (0, *verdict, None),
             Answer::Read(reading, _) => (READ, reading.verdict, None),
             Answer::Rewrite(rewriting, _) => (2, rewriting.verdict, None),
-            Answer::Judge(judgement, _) => {
-                let judged = (usize::from(judgement.level), judgement.tested);
-                (JUDGE, judgement.verdict, Some(judged))
-            }
-            Answer::Ends(ends, _) => (4, ends.verdict, None),
+            Answer::Judge(judgement, _) => (JUDGE, judgement.verdict, Some(*judgement)),
+            Answer::Plain(judgement) => (PLAIN, judgement.verdict, Some(*judgement)),
+            Answer::Ends(ends, _) => (5, ends.verdict, None),
             Answer::Program(line) => return Told::by_line(line),
         };
+        let judged = judged.filter(|_| verdict.number == 0);
         Told {
             kind,
             number: usize::from(verdict.number),
-            judged: judged.filter(|_| verdict.number == 0),
+            judged: judged.map(|it| (usize::from(it.level), it.tested)),
         }
     }
 
@@ -201,7 +224,7 @@ impl Told {
             _ => panic!("this is no line of the program: {line:?}"),
         };
         Told {
-            kind: 5,
+            kind: 6,
             number,
             judged,
         }
@@ -228,7 +251,9 @@ impl fmt::Display for Summary {
             let tested = list(TESTED.iter().zip(decided).rev());
             write!(f, "\n{name:9}{tested}")?;
         }
-        Ok(())
+        let levels = list((0..).zip(self.past_levels));
+        let tested = list(TESTED.iter().zip(self.past_tested).rev());
+        write!(f, "\npast 13  {levels}; tested {tested}")
     }
 }
 

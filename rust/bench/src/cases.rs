@@ -3,7 +3,7 @@ use crate::nodes::{rewritten_count, Nodes};
 use crate::random::{self, Kind, Random};
 
 /// The samples of the longest record.
-const LONGEST: usize = 63;
+pub const LONGEST: usize = 63;
 
 /// A table and the samples that it is judged on.
 pub struct Input {
@@ -22,9 +22,14 @@ impl Input {
     pub fn m(&self) -> usize {
         rewritten_count(&self.table)
     }
+
+    /// The count of the table as it is given.
+    pub fn nodes(&self) -> usize {
+        usize::from(self.table[5])
+    }
 }
 
-fn case(name: &str, nodes: &Nodes, samples: Vec<u64>) -> Case {
+pub fn case(name: &str, nodes: &Nodes, samples: Vec<u64>) -> Case {
     let table = nodes.table();
     Case {
         name: name.to_string(),
@@ -86,12 +91,12 @@ fn implied_next(t: &mut Nodes, c: u8, [a, b]: [u8; 2], p: u8) {
 }
 
 /// A full record of the same samples again and again.
-fn over_and_over(samples: &[u64]) -> Vec<u64> {
+pub fn over_and_over(samples: &[u64]) -> Vec<u64> {
     samples.iter().copied().cycle().take(LONGEST).collect()
 }
 
 /// The seeds that a random case is averaged over.
-const SEEDS: [u64; 5] = [11, 12, 13, 14, 15];
+pub const SEEDS: [u64; 5] = [11, 12, 13, 14, 15];
 
 /// Random tables of 100 to 120 rewritten nodes, on full records.
 fn random_case(name: &str, kind: Kind) -> Case {
@@ -109,7 +114,7 @@ fn random_case(name: &str, kind: Kind) -> Case {
 }
 
 /// A record in which signals 0 to 63 are set in every sample.
-fn all_set() -> Vec<u64> {
+pub fn all_set() -> Vec<u64> {
     vec![u64::MAX; LONGEST]
 }
 
@@ -127,7 +132,7 @@ fn nested_repeats() -> Case {
 }
 
 /// `a[*1:$]`, which on `all_set` has every later place as an end, 2,016 for the 64 starts.
-fn all_ends(t: &mut Nodes, a: u8) -> u8 {
+pub fn all_ends(t: &mut Nodes, a: u8) -> u8 {
     let letter = t.letter(a);
     t.repeat(letter)
 }

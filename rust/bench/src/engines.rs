@@ -7,6 +7,8 @@ pub const WORDS: usize = 65 * 120;
 pub enum Engine {
     /// The proved judge, through the static library.
     Library,
+    /// The proved plain judge, through the static library: level and tested alone, with no workspace.
+    Plain,
     /// The same row rules in safe Rust, without proof.
     Rows,
     /// The naive program, with the rows.
@@ -38,11 +40,18 @@ macro_rules! answer {
 }
 
 impl Engine {
-    pub const ALL: [Engine; 4] = [Engine::Library, Engine::Rows, Engine::Second, Engine::Level];
+    pub const ALL: [Engine; 5] = [
+        Engine::Library,
+        Engine::Plain,
+        Engine::Rows,
+        Engine::Second,
+        Engine::Level,
+    ];
 
     pub fn name(self) -> &'static str {
         match self {
             Engine::Library => "library",
+            Engine::Plain => "plain",
             Engine::Rows => "rows",
             Engine::Second => "second",
             Engine::Level => "level",
@@ -59,17 +68,23 @@ impl Engine {
     }
 
     pub fn leaves_rows(self) -> bool {
-        self != Engine::Level
+        !matches!(self, Engine::Level | Engine::Plain)
     }
 
     pub fn judge(self, table: &[u8], samples: &[u64], workspace: &mut [u64]) -> Answer {
         match self {
             Engine::Library => answer!(xistomar::raw::judge(table, samples, workspace)),
+            Engine::Plain => answer!(xistomar::raw::plain_judge(table, samples)),
             Engine::Rows => answer!(rows::judge(table, samples, workspace)),
             Engine::Second => answer!(second::judge(table, samples, workspace)),
             Engine::Level => answer!(second::level(table, samples)),
         }
     }
+}
+
+/// What the naive program answers for the plain judge, which refuses nothing with 13.
+pub fn naive_plain(table: &[u8], samples: &[u64]) -> Answer {
+    answer!(second::plain_judge(table, samples))
 }
 
 /// A workspace for one engine. Nothing clears it between calls: the judge writes all its words itself.

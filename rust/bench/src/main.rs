@@ -1,4 +1,4 @@
-//! Measures the proved judge beside the same rules in safe Rust and beside the naive second program.
+//! Measures both proved judges beside the rules of the fast one in safe Rust and beside the naive second program.
 //!
 //! `bench` measures all, `bench --quick` with fewer rounds; `bench --list` names the cases; `bench --only ENGINE CASE CALLS` only makes so many
 //! calls of one engine on one case, for a program that counts instructions.
@@ -7,6 +7,7 @@ mod compare;
 mod engines;
 mod measure;
 mod nodes;
+mod past;
 mod random;
 mod report;
 
@@ -14,7 +15,7 @@ use engines::Engine;
 use std::process::ExitCode;
 
 const USAGE: &str = "usage: bench [--quick | --list | --only ENGINE CASE CALLS]
-  ENGINE is library, rows, second or level; --list prints the names of the cases";
+  ENGINE is library, plain, rows, second or level; --list prints the names of the cases";
 
 fn main() -> ExitCode {
     let given: Vec<String> = std::env::args().skip(1).collect();
@@ -46,6 +47,7 @@ fn only(engine: &str, case: &str, calls: &str) -> Result<(), String> {
     let engine = Engine::named(engine).ok_or(USAGE)?;
     let case = cases::all()
         .into_iter()
+        .chain(past::all())
         .find(|known| known.name == case)
         .ok_or_else(|| format!("no case {case}; --list names them"))?;
     let calls = calls.parse().map_err(|_| USAGE)?;

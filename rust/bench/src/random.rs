@@ -54,6 +54,16 @@ pub fn table(r: &mut Random, least: usize, most: usize, kind: Kind) -> Vec<u8> {
     }
 }
 
+/// A clocked table of so many nodes that is not refused, however many it has when rewritten.
+pub fn clocked_table(r: &mut Random, nodes: usize) -> Vec<u8> {
+    loop {
+        let table = attempt(r, nodes, Kind::Clocked);
+        if usize::from(table[5]) == nodes && rows::check(&table).number == 0 {
+            return table;
+        }
+    }
+}
+
 /// A table of so many nodes, which may be refused or too long when rewritten.
 fn attempt(r: &mut Random, size: usize, kind: Kind) -> Vec<u8> {
     let mut nodes = Nodes::default();

@@ -10,6 +10,8 @@ pub const USAGE: u8 = 2;
 pub const REFUSED: u8 = 3;
 /// A file cannot be read, written or understood.
 pub const FAILED: u8 = 4;
+/// The two engines differ, which is a defect of Xistomar.
+pub const DIFFER: u8 = 5;
 
 /// Why a command ends without an answer, in words for standard error.
 #[derive(Debug)]
@@ -20,6 +22,8 @@ pub enum Failure {
     Refused(String),
     /// A file cannot be read, written or understood: status [`FAILED`].
     Failed(String),
+    /// The two engines differ: status [`DIFFER`].
+    Differ(String),
     /// Nobody reads the answer any more: status [`FAILED`], without a word.
     Unheard,
 }
@@ -31,13 +35,15 @@ impl Failure {
             Failure::Usage(_) => USAGE,
             Failure::Refused(_) => REFUSED,
             Failure::Failed(_) | Failure::Unheard => FAILED,
+            Failure::Differ(_) => DIFFER,
         }
     }
 
     /// What went wrong.
     pub fn words(&self) -> &str {
         match self {
-            Failure::Usage(words) | Failure::Refused(words) | Failure::Failed(words) => words,
+            Failure::Usage(words) | Failure::Refused(words) => words,
+            Failure::Failed(words) | Failure::Differ(words) => words,
             Failure::Unheard => "",
         }
     }

@@ -22,6 +22,7 @@ mod assertion;
 mod batch;
 mod commands;
 mod console;
+mod engine;
 mod failure;
 mod files;
 mod names;

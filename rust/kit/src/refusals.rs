@@ -10,11 +10,19 @@ pub fn line(refusal: Refusal) -> String {
     format!("refused {} at {}", refusal.number(), refusal.node())
 }
 
-/// The failure for a file that is refused: the program's line and the page's words.
+/// The failure for a file that is refused: the program's line and the page's words, and of 13 what to do.
 pub fn failure(path: &Path, refusal: Refusal) -> Failure {
     let (shown, line, reason) = (files::shown(path), line(refusal), refusal.reason());
-    Failure::Refused(format!("{shown}: {line}: {reason}"))
+    let words = format!("{shown}: {line}: {reason}");
+    Failure::Refused(match refusal.number() {
+        13 => format!("{words}\n{}", PAST.trim_end()),
+        _ => words,
+    })
 }
+
+/// What to do about refusal 13, a line.
+pub const PAST: &str =
+    "The plain engine judges it: leave out --engine fast, and --asked, which is read off the fast engine's rows.\n";
 
 /// What a file may be whose mark is not the one that is due.
 #[derive(Clone, Copy, Debug, PartialEq, Eq)]
@@ -56,7 +64,7 @@ pub fn too_large(table: &[u8]) -> Option<&'static str> {
     let mut rewritten = [0; xistomar::TABLE_BYTES];
     let refusal = xistomar::rewrite(table, &mut rewritten).err()?;
     let words =
-        "the judge refuses it with 13, rewritten count over 120: under a clock each letter \
-                 counts 9 nodes, each nexttime 14 and each until 9";
+        "the fast engine and the program refuse it with 13, rewritten count over 120: under a \
+                 clock each letter counts 9 nodes, each nexttime 14 and each until 9; the plain engine judges it";
     (refusal.number() == 13).then_some(words)
 }

@@ -46,7 +46,7 @@ impl Required {
         let level = self.level.map(|level| level.to_string());
         let level = level.map(|level| (level, self.level_reached(record)));
         let tested = ("tested".to_string(), record.judgement.tested);
-        let asked = ("asked".to_string(), record.asked);
+        let asked = ("asked".to_string(), record.asked == Some(true));
         let (tested, asked) = (self.tested.then_some(tested), self.asked.then_some(asked));
         [level, tested, asked].into_iter().flatten().collect()
     }
@@ -55,7 +55,7 @@ impl Required {
     pub fn reached(self, record: Judged) -> bool {
         self.level_reached(record)
             && (record.judgement.tested || !self.tested)
-            && (record.asked || !self.asked)
+            && (record.asked == Some(true) || !self.asked)
     }
 
     fn level_reached(self, record: Judged) -> bool {

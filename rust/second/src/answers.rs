@@ -104,10 +104,16 @@ pub fn level(table: &[u8], samples: &[u64]) -> Judgement {
         refuse_if(samples.len() > MOST_SAMPLES, 10)?;
         Ok(nodes)
     });
-    match judged {
-        Ok(nodes) => judgement(&nodes, samples),
-        Err(refusal) => refused_judgement(refusal),
-    }
+    judgement_or_refusal(judged, samples)
+}
+
+/// Judges by the clocked table alone, with nothing lent: refusals 1 to 9, 12, 10.
+pub fn plain_judge(table: &[u8], samples: &[u64]) -> Judgement {
+    let judged = nodes_with_root(table, Sort::Property).and_then(|nodes| {
+        refuse_if(samples.len() > MOST_SAMPLES, 10)?;
+        Ok(nodes)
+    });
+    judgement_or_refusal(judged, samples)
 }
 
 /// Match ends from a start: refusals 1 to 9, 12, 13, 10, 14, 11.
@@ -153,11 +159,17 @@ fn judge_table(table: &[u8]) -> Result<(Vec<Node>, Vec<Node>), Verdict> {
 
 /// A table with a root of the sort asked for, and its rewriting.
 fn table_with_root(table: &[u8], sort: Sort) -> Result<(Vec<Node>, Vec<Node>), Verdict> {
+    let nodes = nodes_with_root(table, sort)?;
+    let rewritten = rewritten_in_limits(&nodes)?;
+    Ok((nodes, rewritten))
+}
+
+/// The nodes of a table with a root of the sort asked for: refusals 1 to 9, 12.
+fn nodes_with_root(table: &[u8], sort: Sort) -> Result<Vec<Node>, Verdict> {
     let nodes = table::checked(table)?.nodes;
     let right = nodes.last().map(|root| root.sort()) == Some(sort);
     refuse_if(!right, 12)?;
-    let rewritten = rewritten_in_limits(&nodes)?;
-    Ok((nodes, rewritten))
+    Ok(nodes)
 }
 
 /// The rewritten table, or refusal 13 for too many nodes.
@@ -165,6 +177,14 @@ fn rewritten_in_limits(nodes: &[Node]) -> Result<Vec<Node>, Verdict> {
     let rewritten = rewritten(nodes);
     refuse_if(rewritten.len() > MOST_NODES, 13)?;
     Ok(rewritten)
+}
+
+/// The judgement of nodes that are not refused.
+fn judgement_or_refusal(judged: Result<Vec<Node>, Verdict>, samples: &[u64]) -> Judgement {
+    match judged {
+        Ok(nodes) => judgement(&nodes, samples),
+        Err(refusal) => refused_judgement(refusal),
+    }
 }
 
 /// The level and whether the table was tested, by the clocked definitions.

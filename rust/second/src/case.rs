@@ -22,6 +22,11 @@ pub enum Case {
         samples: Vec<u64>,
         words: usize,
     },
+    /// The plain judge, to which nothing is lent.
+    Plain {
+        table: Vec<u8>,
+        samples: Vec<u64>,
+    },
     Ends {
         table: Vec<u8>,
         samples: Vec<u64>,
@@ -40,6 +45,7 @@ pub enum Answer {
     Read(Reading, Vec<u64>),
     Rewrite(Rewriting, Vec<u8>),
     Judge(Judgement, Vec<u64>),
+    Plain(Judgement),
     Ends(MatchEnds, Vec<u64>),
     Program(String),
 }
@@ -51,7 +57,7 @@ impl Answer {
             Answer::Check(verdict) => Some(*verdict),
             Answer::Read(reading, _) => Some(reading.verdict),
             Answer::Rewrite(rewriting, _) => Some(rewriting.verdict),
-            Answer::Judge(judgement, _) => Some(judgement.verdict),
+            Answer::Judge(judgement, _) | Answer::Plain(judgement) => Some(judgement.verdict),
             Answer::Ends(ends, _) => Some(ends.verdict),
             Answer::Program(_) => None,
         }
@@ -95,6 +101,7 @@ pub fn answer(case: &Case) -> Answer {
             let mut lent = lent_workspace(*words);
             Answer::Judge(answers::judge(table, samples, &mut lent), lent)
         }
+        Case::Plain { table, samples } => Answer::Plain(answers::plain_judge(table, samples)),
         Case::Ends {
             table,
             samples,

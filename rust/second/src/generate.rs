@@ -6,6 +6,7 @@ use crate::grow::{filled, grown, grown_once, Plan, Shape};
 use crate::node::{Node, Sort};
 use crate::random::Random;
 use crate::record::record_bytes;
+use crate::recording::{good_samples, signals, too_many_samples};
 use crate::rewriting::rewritten;
 use crate::rows::WORDS_PER_NODE;
 use crate::table::{table_bytes, MOST_NODES};
@@ -29,9 +30,16 @@ struct Made {
     m: usize,
 }
 
-/// The case of a seed.
+/// How many of a hundred cases are of the plain judge.
+const PLAIN: usize = 14;
+
+/// The case of a seed. Whether it is one of the plain judge is drawn from a
+/// stream of its own, so that the other cases stay what they were without it.
 pub fn random_case(seed: u64) -> Case {
     let random = &mut Random::new(seed);
+    if Random::new(!seed).percent(PLAIN) {
+        return plain_case(random);
+    }
     match random.weighted(&[8, 8, 14, 40, 20, 10]) {
         0 => check_case(random),
         1 => read_case(random),
@@ -78,8 +86,13 @@ fn made(random: &mut Random, root: Sort) -> Made {
 
 /// A table whose rewriting has just too many nodes, or far too many.
 fn made_too_large(random: &mut Random, root: Sort) -> Made {
+    made_larger(random, root, 60)
+}
+
+/// The same, of up to about so many sequence and property nodes.
+fn made_larger(random: &mut Random, root: Sort, most: usize) -> Made {
     for _ in 0..20 {
-        let size = random.between(10, 60);
+        let size = random.between(10, most);
         let mut plan = plan(random, root, size);
         plan.clocks = random.between(10, 60);
         let mut nodes = grown_once(random, &plan, size);
@@ -132,91 +145,6 @@ fn plan(random: &mut Random, root: Sort, size: usize) -> Plan {
         mixed_order: random.percent(40),
         unused_booleans: random.pick(&[0, 0, 0, 1, 3]),
     }
-}
-
-/// A few signals, so that things match.
-fn signals(random: &mut Random) -> Vec<usize> {
-    match random.below(9) {
-        0 => vec![0],
-        1 | 2 => vec![0, 1],
-        3 | 4 => vec![0, 1, 2],
-        5 | 6 => vec![0, 63],
-        7 => vec![0, 1, 2, 3, 4],
-        _ => (0..3).map(|_| random.below(64)).collect(),
-    }
-}
-
-/// How many samples a good record has: mostly few.
-fn record_length(random: &mut Random) -> usize {
-    match random.weighted(&[9, 46, 31, 8, 6]) {
-        0 => 0,
-        1 => random.between(1, 3),
-        2 => random.between(3, 14),
-        3 => random.between(15, 62),
-        _ => random.between(60, 63),
-    }
-}
-
-/// Samples over a few signals, at times with runs, noise or a quiet beginning.
-fn samples(random: &mut Random, n: usize, signals: &[usize]) -> Vec<u64> {
-    let course = course(random);
-    let repeats = random.pick(&[0, 0, 30, 70]);
-    let noisy = random.percent(10);
-    // So many samples at first have none of the signals.
-    let quiet = random.pick(&[0, 0, 0, 1, 2, 3]);
-    let mut samples: Vec<u64> = Vec::new();
-    for index in 0..n {
-        let before = samples.last().copied();
-        let mut sample = if noisy { random.next() } else { 0 };
-        for &signal in signals {
-            let was_set = before.unwrap_or(0) >> signal & 1 == 1;
-            let set = u64::from(set_next(random, &course, was_set) && index >= quiet);
-            sample = sample & !(1 << signal) | set << signal;
-        }
-        match before {
-            Some(before) if random.percent(repeats) => samples.push(before),
-            _ => samples.push(sample),
-        }
-    }
-    samples
-}
-
-/// What the signals of a record do from sample to sample, in parts of a hundred.
-enum Course {
-    /// Each is set so often, whatever it was.
-    Set(usize),
-    /// Each changes so often: seldom, and it stays high or low over neighbouring
-    /// samples, or mostly, and it rises and falls by turns.
-    Changes(usize),
-}
-
-/// Thin or mostly dense, steady or restless.
-fn course(random: &mut Random) -> Course {
-    if random.percent(60) {
-        Course::Set(random.pick(&[10, 30, 50, 70, 90, 95, 100]))
-    } else {
-        Course::Changes(random.pick(&[20, 35, 60, 85]))
-    }
-}
-
-/// Whether a signal is set in the next sample.
-fn set_next(random: &mut Random, course: &Course, was_set: bool) -> bool {
-    match *course {
-        Course::Set(share) => random.percent(share),
-        Course::Changes(share) => was_set != random.percent(share),
-    }
-}
-
-/// A good record for a table.
-fn good_samples(random: &mut Random, signals: &[usize]) -> Vec<u64> {
-    let n = record_length(random);
-    samples(random, n, signals)
-}
-
-/// A record with too many samples.
-fn too_many_samples(random: &mut Random, signals: &[usize]) -> Vec<u64> {
-    let n = random.pick(&[64, 64, 65, 70, 100]);
-    samples(random, n, signals)
 }
 
 /// A workspace that is large enough: often exactly.
@@ -351,6 +279,24 @@ fn judge_case(random: &mut Random) -> Case {
         table,
         samples,
         words,
+    }
+}
+
+/// The plain judge: a table for the judge or, as often, one whose rewriting has
+/// too many nodes.
+fn plain_case(random: &mut Random) -> Case {
+    let spoilt = random.percent(SPOILT - 5);
+    if spoilt {
+        let (table, samples, _) = call(random, Sort::Property, true);
+        return Case::Plain { table, samples };
+    }
+    let table = match random.percent(50) {
+        true => made(random, Sort::Property),
+        false => made_larger(random, Sort::Property, 105),
+    };
+    Case::Plain {
+        samples: good_samples(random, &table.signals),
+        table: table.bytes,
     }
 }
 

@@ -1,6 +1,6 @@
 //! A second opinion on clocked assertions over sampled records.
 //!
-//! Every answer follows the definitions of document 01, with requests 2 and 3
+//! Every answer follows the definitions of document 01, with requests 1, 2 and 3
 //! of document 02, clause by clause, on explicit letters. It is slow on purpose
 //! and shares nothing with the product.
 
@@ -18,6 +18,7 @@ mod meaning;
 mod node;
 mod random;
 mod record;
+mod recording;
 mod rewriting;
 mod rows;
 mod shrink;
@@ -30,7 +31,7 @@ mod text;
 mod verdict;
 mod words;
 
-pub use answers::{check, judge, level, line, match_ends, read, rewrite};
+pub use answers::{check, judge, level, line, match_ends, plain_judge, read, rewrite};
 pub use answers::{Judgement, MatchEnds, Reading, Rewriting};
 pub use case::{answer, lent_bytes, lent_samples, lent_workspace, Answer, Case};
 pub use generate::random_case;

@@ -35,6 +35,7 @@ fn weight(case: &Case) -> [u128; 6] {
             samples,
             words,
         } => (table, &samples[..], 0, *words),
+        Case::Plain { table, samples } => (table, &samples[..], 0, 0),
         Case::Ends {
             table,
             samples,
@@ -69,6 +70,10 @@ fn candidates(case: &Case) -> Vec<Case> {
             samples,
             words,
         } => judge_candidates(table, samples, *words),
+        Case::Plain { table, samples } => pairs(table, samples)
+            .into_iter()
+            .map(|(table, samples)| Case::Plain { table, samples })
+            .collect(),
         Case::Ends {
             table,
             samples,
@@ -108,28 +113,29 @@ fn rewrite_candidates(table: &[u8], bytes: usize) -> Vec<Case> {
 
 /// Smaller tables, smaller records and fewer words.
 fn judge_candidates(table: &[u8], samples: &[u64], words: usize) -> Vec<Case> {
-    let case = |table: Vec<u8>, samples: Vec<u64>, words| Case::Judge {
+    let case = |(table, samples): (Vec<u8>, Vec<u64>), words| Case::Judge {
         table,
         samples,
         words,
     };
-    let mut cases = Vec::new();
-    for fewer in sample_lists(samples) {
-        cases.push(case(table.to_vec(), fewer, words));
-    }
-    for smaller in tables(table) {
-        cases.push(case(smaller.clone(), samples.to_vec(), words));
-        // What a nexttime passes over goes with it.
-        cases.push(case(
-            smaller,
-            samples.iter().skip(1).copied().collect(),
-            words,
-        ));
-    }
+    let pairs = pairs(table, samples).into_iter();
+    let mut cases: Vec<Case> = pairs.map(|pair| case(pair, words)).collect();
     for words in sizes(words, WORDS_PER_NODE * rewritten_count(table)) {
-        cases.push(case(table.to_vec(), samples.to_vec(), words));
+        cases.push(case((table.to_vec(), samples.to_vec()), words));
     }
     cases
+}
+
+/// Smaller records, and smaller tables with the samples or with one less: what
+/// a nexttime passes over goes with it.
+fn pairs(table: &[u8], samples: &[u64]) -> Vec<(Vec<u8>, Vec<u64>)> {
+    let fewer = sample_lists(samples).into_iter();
+    let mut pairs: Vec<_> = fewer.map(|fewer| (table.to_vec(), fewer)).collect();
+    for smaller in tables(table) {
+        pairs.push((smaller.clone(), samples.to_vec()));
+        pairs.push((smaller, samples.iter().skip(1).copied().collect()));
+    }
+    pairs
 }
 
 /// The same with the start; a start inside the record may move with it.

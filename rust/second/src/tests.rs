@@ -1,9 +1,11 @@
-//! The examples of document 01, the small cases of the open points, rising and
-//! falling signals, what is tested, refusals, and checks over many random cases.
+//! The examples of document 01, the small cases of the open points, the plain
+//! judge, rising and falling signals, what is tested, refusals, and checks over
+//! many random cases.
 
 mod counts;
 mod coverage;
 mod examples;
+mod plain;
 mod random_cases;
 mod refusals;
 mod rising;
@@ -11,7 +13,7 @@ mod tested;
 mod tools;
 mod versions;
 
-use crate::{judge, level, Verdict};
+use crate::{judge, level, plain_judge, Verdict};
 
 /// A table of version 1 from operators with x and y.
 fn table(nodes: &[(u8, u8, u8)]) -> Vec<u8> {
@@ -62,11 +64,12 @@ fn clocked_strong_rewritten(a: (u8, u8, u8), c: (u8, u8, u8)) -> [(u8, u8, u8); 
     ]
 }
 
-/// Asserts the level of a table on samples, judged both ways.
+/// Asserts the level of a table on samples, judged in all three ways.
 fn has_level(table: &[u8], samples: &[u64], expected: u8) {
     let mut workspace = vec![0; 7800];
     let judged = judge(table, samples, &mut workspace);
     assert_eq!(judged.verdict, Verdict::ACCEPTED);
     assert_eq!(judged.level, expected, "{table:?} on {samples:?}");
     assert_eq!(level(table, samples), judged);
+    assert_eq!(plain_judge(table, samples), judged);
 }

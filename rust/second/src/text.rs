@@ -1,5 +1,6 @@
 //! Cases and answers as lines of text.
 
+use crate::answers::Judgement;
 use crate::case::{Answer, Case};
 use crate::verdict::Verdict;
 use std::fmt::{Display, Write};
@@ -27,6 +28,10 @@ pub fn case_text(label: u64, case: &Case) -> String {
         } => {
             let lists = (byte_runs(table), sample_runs(samples));
             format!("judge {words} {label}:{} /{}", lists.0, lists.1)
+        }
+        Case::Plain { table, samples } => {
+            let lists = (byte_runs(table), sample_runs(samples));
+            format!("plain {label}:{} /{}", lists.0, lists.1)
         }
         Case::Ends {
             table,
@@ -78,12 +83,8 @@ pub fn answer_text(label: u64, answer: &Answer) -> String {
             let accepted = format!("{} nodes", rewriting.count);
             said(rewriting.verdict, ", count 0", &accepted) + ", bytes " + &digits(bytes)
         }
-        Answer::Judge(judgement, words) => {
-            let tested = yes_or_no(judgement.tested);
-            let accepted = format!("level {} tested {tested}", judgement.level);
-            let refused = format!(", {accepted}");
-            said(judgement.verdict, &refused, &accepted) + &digest_text(words)
-        }
+        Answer::Judge(judgement, words) => judgement_text(judgement) + &digest_text(words),
+        Answer::Plain(judgement) => judgement_text(judgement),
         Answer::Ends(ends, words) => {
             let accepted = format!("ends {:x} top {}", ends.mask, yes_or_no(ends.top));
             let refused = format!(", {accepted}");
@@ -92,6 +93,14 @@ pub fn answer_text(label: u64, answer: &Answer) -> String {
         Answer::Program(line) => line.clone(),
     };
     format!("{label}: {said}")
+}
+
+/// What a judge answered, refused or not.
+fn judgement_text(judgement: &Judgement) -> String {
+    let tested = yes_or_no(judgement.tested);
+    let accepted = format!("level {} tested {tested}", judgement.level);
+    let refused = format!(", {accepted}");
+    said(judgement.verdict, &refused, &accepted)
 }
 
 /// The refusal with what follows it, or the words of an acceptance.
@@ -160,6 +169,7 @@ pub fn parse_case(line: &str) -> Result<(u64, Case), String> {
             table: bytes(body)?,
         },
         ["judge", words, _] => judge_case(words, body)?,
+        ["plain", _] => plain_case(body)?,
         ["ends", start, words, _] => ends_case(start, words, body)?,
         ["program", _] => Case::Program {
             input: bytes(body)?,
@@ -172,24 +182,36 @@ pub fn parse_case(line: &str) -> Result<(u64, Case), String> {
 
 /// A case of the judge.
 fn judge_case(words: &str, body: &str) -> Result<Case, String> {
-    let (table, samples) = body.split_once('/').ok_or("there is no slash")?;
+    let (table, samples) = table_and_samples(body)?;
     Ok(Case::Judge {
-        table: bytes(table)?,
-        samples: samples_of(samples)?,
+        table,
+        samples,
         words: number_up_to(words, MOST_WORKSPACE)?,
     })
 }
 
+/// A case of the plain judge.
+fn plain_case(body: &str) -> Result<Case, String> {
+    let (table, samples) = table_and_samples(body)?;
+    Ok(Case::Plain { table, samples })
+}
+
 /// A case of match ends.
 fn ends_case(start: &str, words: &str, body: &str) -> Result<Case, String> {
-    let (table, samples) = body.split_once('/').ok_or("there is no slash")?;
+    let (table, samples) = table_and_samples(body)?;
     let start = number(start)?;
     Ok(Case::Ends {
-        table: bytes(table)?,
-        samples: samples_of(samples)?,
+        table,
+        samples,
         start: usize::try_from(start).map_err(|_| "the start is too large")?,
         words: number_up_to(words, MOST_WORKSPACE)?,
     })
+}
+
+/// The bytes of a table, and after a slash samples.
+fn table_and_samples(body: &str) -> Result<(Vec<u8>, Vec<u64>), String> {
+    let (table, samples) = body.split_once('/').ok_or("there is no slash")?;
+    Ok((bytes(table)?, samples_of(samples)?))
 }
 
 /// Bytes of two hex digits each, with runs.

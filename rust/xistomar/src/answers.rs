@@ -1,5 +1,5 @@
-//! What the judge and match ends answer when they accept.
-use crate::LONGEST;
+//! What the judges and match ends answer when they accept.
+use crate::{raw, refusal, Refusal, LONGEST};
 use std::fmt;
 
 /// The level at which an assertion holds on a record. A higher level says more.
@@ -64,6 +64,15 @@ pub struct Judgement {
     /// weak was reached, and each `|->` on the way there had its left side matched where it was
     /// asked. A `|->` that is not on the way there may never have been asked.
     pub tested: bool,
+}
+
+/// What the library said, as a result.
+pub(crate) fn settle(judgement: raw::Judgement) -> Result<Judgement, Refusal> {
+    refusal::settle(judgement.verdict)?;
+    Ok(Judgement {
+        level: Level::of(judgement.level),
+        tested: judgement.tested,
+    })
 }
 
 /// The program's line, such as `level 1 tested yes`.

@@ -10,6 +10,10 @@
 //! first is all zero. So a letter is a pair of samples, made of all the samples that are lent,
 //! whatever the start.
 //!
+//! Two judges answer the same, each proved by itself: [`judge`], which rewrites the clocks of a table
+//! away and leaves rows in a workspace ([`Judge`] has one of its own), and [`plain_judge`], which reads
+//! the clocked table directly and needs none.
+//!
 //! Every answer comes from the proved static library, which takes any bytes, samples and sizes.
 //! This crate puts its answers into Rust's types and judges nothing by itself; [`raw`] has them as
 //! the library gives them.
@@ -100,12 +104,34 @@ pub fn rewrite(table: &[u8], out: &mut [u8]) -> Result<usize, Refusal> {
 ///
 /// Refusals 1 to 9, 12, 13, 10, 11, in this order.
 pub fn judge(table: &[u8], samples: &[u64], workspace: &mut [u64]) -> Result<Judgement, Refusal> {
-    let judgement = raw::judge(table, samples, workspace);
-    refusal::settle(judgement.verdict)?;
-    Ok(Judgement {
-        level: Level::of(judgement.level),
-        tested: judgement.tested,
-    })
+    answers::settle(raw::judge(table, samples, workspace))
+}
+
+/// Judges as [`judge`] does, by a second engine that is proved by itself: it reads the clocked table
+/// directly, with no rewritten table and no workspace. Where [`judge`] accepts, both give the same
+/// level and flag; a table whose rewriting has more than 120 nodes, which [`judge`] refuses with 13,
+/// is answered too. It calls itself on a node's operands, and no table needs more than 256 KiB of
+/// stack for that.
+///
+/// Refusals 1 to 9, 12, 10, in this order.
+///
+/// ```
+/// // @(a) over eight nexttimes of strong(a), each rewritten to 14 nodes
+/// let mut table = b"SVT\x01\x00\x0c".to_vec();
+/// table.extend([1, 0, 0, 0, 16, 0, 0, 0, 32, 1, 0, 0]);
+/// for operand in 2..10 {
+///     table.extend([38, operand, 0, 0]);
+/// }
+/// table.extend([40, 0, 10, 0]);
+///
+/// let refusal = xistomar::Judge::new().judge(&table, &[1; 9]).unwrap_err();
+/// assert_eq!(refusal.number(), 13);
+/// let judgement = xistomar::plain_judge(&table, &[1; 9])?;
+/// assert_eq!(judgement.to_string(), "level 3 tested yes");
+/// # Ok::<(), xistomar::Refusal>(())
+/// ```
+pub fn plain_judge(table: &[u8], samples: &[u64]) -> Result<Judgement, Refusal> {
+    answers::settle(raw::plain_judge(table, samples))
 }
 
 /// The ends of the matches, from sample `start` on, of the sequence at the table's root. In a version

@@ -79,6 +79,12 @@ extern "C" {
         workspace: *mut u64,
         workspace_words: usize,
     ) -> Judgement;
+    fn xistomar_plain_judge(
+        table: *const u8,
+        table_bytes: usize,
+        samples: *const u64,
+        sample_count: usize,
+    ) -> Judgement;
     fn xistomar_match_ends(
         table: *const u8,
         table_bytes: usize,
@@ -125,6 +131,12 @@ pub fn judge(table: &[u8], samples: &[u64], workspace: &mut [u64]) -> Judgement 
             workspace.len(),
         )
     }
+}
+
+/// Judges as [`judge`] does, by the clocked table itself, with no workspace.
+pub fn plain_judge(table: &[u8], samples: &[u64]) -> Judgement {
+    // SAFETY: as in `check`; nothing is written.
+    unsafe { xistomar_plain_judge(table.as_ptr(), table.len(), samples.as_ptr(), samples.len()) }
 }
 
 /// The match ends of the sequence at the table's root, from a start; leaves the rows in the workspace.

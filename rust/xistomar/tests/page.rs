@@ -1,13 +1,10 @@
-//! The examples of the page, each refusal once, and what each call leaves in what it is lent.
+//! The examples of the page by both engines, each refusal once, and what each call leaves in what it is lent.
 mod files;
+mod tables;
 
-use files::{level, refused};
+use files::{judged, level, refused};
+use tables::{clocked_letters, over_a, repeated_a, strong_a, table};
 use xistomar::{Judge, Level};
-
-/// A table of version 1 with these nodes: operator, x, y.
-fn table(nodes: &[[u8; 3]]) -> Vec<u8> {
-    files::table(1, nodes)
-}
 
 /// A record of these samples.
 fn record(samples: &[u64]) -> Vec<u8> {
@@ -23,32 +20,6 @@ fn letters(more: &[[u8; 3]]) -> Vec<u8> {
 /// a ##1 b under strong (32) or weak (33).
 fn a_then_b(operator: u8) -> Vec<u8> {
     letters(&[[17, 2, 3], [operator, 4, 0]])
-}
-
-/// One letter a, and an operator over it.
-fn over_a(operators: &[[u8; 3]]) -> Vec<u8> {
-    table(&[&[[1, 0, 0], [16, 0, 0]], operators].concat())
-}
-
-/// strong(a), accepted by everything but match ends.
-fn strong_a() -> Vec<u8> {
-    over_a(&[[32, 1, 0]])
-}
-
-/// a[*1:$], accepted by everything but the judge.
-fn repeated_a() -> Vec<u8> {
-    over_a(&[[21, 1, 0]])
-}
-
-/// @(a) over this many letters a joined by `##1`: each letter is rewritten to 9 nodes.
-fn clocked_letters(count: u8) -> Vec<u8> {
-    let mut nodes = vec![[1, 0, 0], [16, 0, 0]];
-    for last in (1..).step_by(2).take(usize::from(count) - 1) {
-        nodes.extend([[16, 0, 0], [17, last, last + 1]]);
-    }
-    let last = nodes.len() as u8 - 1;
-    nodes.extend([[32, last, 0], [40, 0, last + 1]]);
-    table(&nodes)
 }
 
 #[test]
@@ -90,9 +61,9 @@ fn p12_match_ends() {
     assert_eq!((ends.mask, ends.top), (0, true));
 }
 
-/// The program's line for a table that is judged.
+/// The program's line for a table that is judged, by both engines.
 fn line(table: &[u8], samples: &[u64]) -> String {
-    Judge::new().judge(table, samples).unwrap().to_string()
+    judged(table, samples).to_string()
 }
 
 #[test]

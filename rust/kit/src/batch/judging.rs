@@ -1,5 +1,6 @@
 //! Judging many records at once.
 use super::find::Place;
+use crate::engine::{Difference, Engines, Unjudged};
 use crate::files;
 use crate::verdict::{Judged, Reaching};
 use std::fs::File;
@@ -13,7 +14,7 @@ use std::sync::mpsc::{channel, RecvTimeoutError};
 use std::sync::{Mutex, PoisonError};
 use std::thread;
 use std::time::{Duration, Instant};
-use xistomar::{Judge, Refusal, LONGEST};
+use xistomar::{Refusal, LONGEST};
 
 /// The records that a thread takes at once.
 const PART: usize = 64;
@@ -28,6 +29,8 @@ pub enum Answer {
     Judged(Judged),
     /// The record is refused.
     Refused(Refusal),
+    /// The engines differ on the record.
+    Differ(Difference),
     /// The file cannot be read, and why.
     Unreadable(String),
 }
@@ -47,15 +50,16 @@ type Parts<'a, 'b> = Zip<Chunks<'a, Place>, ChunksMut<'b, Answer>>;
 /// What the threads share.
 struct Shared<'a, 'b> {
     reaching: &'a Reaching,
+    engines: &'a Engines,
     parts: Mutex<Parts<'a, 'b>>,
     done: AtomicUsize,
     slowest: Mutex<Option<(Duration, &'a Path)>>,
 }
 
-/// Judges the record at each place by a table that is not refused, with as many threads as run at
+/// Judges the record at each place by a table that its engines do not refuse, with as many threads as run at
 /// once here. While they work, `watch` is told every tenth of a second how many are done.
 pub fn judge_all<'a>(
-    reaching: &'a Reaching,
+    (reaching, engines): (&'a Reaching, &'a Engines),
     places: &'a [Place],
     watch: &mut dyn FnMut(usize),
 ) -> Run<'a> {
@@ -63,6 +67,7 @@ pub fn judge_all<'a>(
     answers.resize_with(places.len(), || Answer::Unreadable(String::new()));
     let shared = Shared {
         reaching,
+        engines,
         parts: Mutex::new(places.chunks(PART).zip(answers.chunks_mut(PART))),
         done: AtomicUsize::new(0),
         slowest: Mutex::new(None),
@@ -97,10 +102,10 @@ fn run_threads(shared: &Shared, threads: usize, watch: &mut dyn FnMut(usize)) {
     });
 }
 
-/// One thread's judge, with the memory that it reads records into.
+/// One thread's engines, with the memory that it reads records into.
 struct Worker<'s, 'a, 'b> {
     shared: &'s Shared<'a, 'b>,
-    judge: Judge,
+    engines: Engines,
     bytes: Vec<u8>,
     samples: [u64; LONGEST],
     slowest: Option<(Duration, &'a Path)>,
@@ -110,7 +115,7 @@ impl<'s, 'a, 'b> Worker<'s, 'a, 'b> {
     fn new(shared: &'s Shared<'a, 'b>) -> Worker<'s, 'a, 'b> {
         Worker {
             shared,
-            judge: Judge::new(),
+            engines: shared.engines.clone(),
             bytes: Vec::with_capacity(2 * files::MOST as usize),
             samples: [0; LONGEST],
             slowest: None,
@@ -147,7 +152,8 @@ impl<'s, 'a, 'b> Worker<'s, 'a, 'b> {
         }
         let begun = Instant::now();
         match self.judge() {
-            Err(refusal) => Answer::Refused(refusal),
+            Err(Unjudged::Refused(refusal)) => Answer::Refused(refusal),
+            Err(Unjudged::Differ(difference)) => Answer::Differ(difference),
             Ok(judged) => {
                 let time = (begun.elapsed(), place.path.as_path());
                 self.slowest = self.slowest.max(Some(time));
@@ -157,9 +163,9 @@ impl<'s, 'a, 'b> Worker<'s, 'a, 'b> {
     }
 
     /// Judges the record that was read.
-    fn judge(&mut self) -> Result<Judged, Refusal> {
+    fn judge(&mut self) -> Result<Judged, Unjudged> {
         let count = xistomar::read(&self.bytes, &mut self.samples)?;
         let samples = self.samples.get(..count).unwrap_or_default();
-        self.shared.reaching.judged(&mut self.judge, samples)
+        self.shared.reaching.judged(&mut self.engines, samples)
     }
 }

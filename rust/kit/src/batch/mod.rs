@@ -3,6 +3,8 @@ mod find;
 mod judging;
 mod progress;
 mod report;
+#[cfg(test)]
+mod tests;
 
 pub use find::{find, Found};
 pub use judging::{judge_all, Answer, Run};

@@ -30,6 +30,10 @@ impl Report<'_> {
         rows.extend(self.refused());
         let unreadable = self.count(|answer| matches!(answer, Answer::Unreadable(_)));
         rows.push(row("unreadable", unreadable, ""));
+        let differ = self.count(|answer| matches!(answer, Answer::Differ(_)));
+        if differ > 0 {
+            rows.push(row("engines differ", differ, "a defect of Xistomar"));
+        }
         rows.push(row("total", self.run.answers.len(), ""));
         rows.push(row("", "", ""));
         rows.extend(self.remarks());
@@ -75,6 +79,17 @@ impl Report<'_> {
         rows
     }
 
+    /// How many of those judged never asked some `|->`; the plain engine alone cannot tell.
+    fn never_asked(&self, judged: usize) -> Row {
+        if self.judged(|it| it.asked.is_none()) > 0 {
+            let words = "not told: the plain engine judged alone";
+            return row("never asked", "-", words);
+        }
+        let unasked = self.judged(|it| it.asked == Some(false));
+        let words = format!("of {judged} judged: some |-> was never asked");
+        row("never asked", unasked, &words)
+    }
+
     /// The rows below the counts.
     fn remarks(&self) -> Vec<Row> {
         let all = self.run.answers.len();
@@ -83,9 +98,7 @@ impl Report<'_> {
         let untested = self.judged(|it| !it.judgement.tested);
         let words = format!("of {judged} judged: no strong and no weak was reached");
         rows.push(row("not tested", untested, &words));
-        let unasked = self.judged(|it| !it.asked);
-        let words = format!("of {judged} judged: some |-> was never asked");
-        rows.push(row("never asked", unasked, &words));
+        rows.push(self.never_asked(judged));
         if self.required.asks() {
             let reached = self.judged(|it| self.required.reached(*it));
             let words = format!("of {all}: {}", self.required.words());
@@ -143,9 +156,10 @@ pub fn list<'a>(found: &'a Found, run: &'a Run) -> impl Iterator<Item = String> 
         let name = shown(&place.path);
         match answer {
             Answer::Judged(Judged { judgement, asked }) => match asked {
-                true => format!("{name}: {judgement}\n"),
-                false => format!("{name}: {judgement}, a |-> never asked\n"),
+                Some(false) => format!("{name}: {judgement}, a |-> never asked\n"),
+                _ => format!("{name}: {judgement}\n"),
             },
+            Answer::Differ(difference) => format!("{name}: {}\n", difference.line()),
             Answer::Refused(refusal) => format!("{name}: {}\n", refusals::line(*refusal)),
             Answer::Unreadable(why) => format!("{name}: unreadable: {why}\n"),
         }
@@ -155,8 +169,8 @@ pub fn list<'a>(found: &'a Found, run: &'a Run) -> impl Iterator<Item = String> 
 /// The broken records that are named, at most. The refused and the unreadable are all named.
 const NAMED: usize = 20;
 
-/// A line for each of the first broken records, for each that is refused, and for each that cannot be
-/// read.
+/// A line for each of the first broken records, for each that is refused, for each that cannot be read,
+/// and for each on which the engines differ.
 pub fn names<'a>(found: &'a Found, run: &'a Run) -> impl Iterator<Item = String> + 'a {
     let pairs = || found.places.iter().zip(&run.answers);
     let broken = || {
@@ -178,5 +192,10 @@ pub fn names<'a>(found: &'a Found, run: &'a Run) -> impl Iterator<Item = String>
         Answer::Unreadable(why) => Some(format!("unreadable  {}: {why}\n", shown(&place.path))),
         _ => None,
     });
-    broken.chain(more).chain(refused).chain(unreadable)
+    let differ = pairs().filter_map(|(place, answer)| match answer {
+        Answer::Differ(it) => Some(format!("{}  {}\n", it.line(), shown(&place.path))),
+        _ => None,
+    });
+    let named = broken.chain(more).chain(refused).chain(unreadable);
+    named.chain(differ)
 }

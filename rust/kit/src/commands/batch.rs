@@ -2,6 +2,7 @@
 use super::Command;
 use crate::batch::{self, Answer, Progress, Report, Run};
 use crate::console::Console;
+use crate::engine::{self, Engine, Engines, Unjudged};
 use crate::failure::{Failure, Outcome, BELOW, DONE, REFUSED};
 use crate::files::shown;
 use crate::once;
@@ -12,14 +13,13 @@ use crate::source;
 use crate::verdict::Reaching;
 use std::path::{Path, PathBuf};
 use std::time::Instant;
-use xistomar::{Judge, Refusal};
 
 /// The command.
 pub const COMMAND: Command = Command {
     name: "batch",
     help: HELP,
     spec: Spec {
-        values: &["--require"],
+        values: &["--require", "--engine"],
         flags: &["--tested", "--asked", "--once", "--list"],
     },
     run,
@@ -28,17 +28,21 @@ pub const COMMAND: Command = Command {
 fn run(options: &Options, console: &mut Console) -> Outcome {
     let begun = Instant::now();
     let required = Required::of(options)?;
+    let asked = Engine::of(options)?;
     let (path, given) = given(options)?;
     let source = source::table(path, None)?;
-    let reaching = accepted(&source.table);
-    let reaching = reaching.map_err(|refusal| refusals::failure(path, refusal))?;
+    let (reaching, engines) =
+        accepted(asked, required, &source.table).map_err(|unjudged| match unjudged {
+            Unjudged::Refused(refusal) => refusals::failure(path, refusal),
+            Unjudged::Differ(difference) => difference.failure(&[path]),
+        })?;
     let found = batch::find(given);
     if found.places.is_empty() {
         return Err(no_record(given, found.others));
     }
     let mut progress = Progress::begin(console, found.places.len());
     let mut watch = |done| progress.draw(done);
-    let run = batch::judge_all(&reaching, &found.places, &mut watch);
+    let run = batch::judge_all((&reaching, &engines), &found.places, &mut watch);
     progress.erase();
     let whole = begun.elapsed();
     if options.flag("--list") {
@@ -52,9 +56,13 @@ fn run(options: &Options, console: &mut Console) -> Outcome {
         whole,
     };
     console.say(&report.table())?;
+    let alone = match engines.engine() {
+        Engine::Plain => engine::alone(engines.past()),
+        _ => String::new(),
+    };
     let note = once::note(reaching.assertion(), &source.names, options);
-    if !note.is_empty() {
-        console.say(&format!("\n{note}"))?;
+    if !alone.is_empty() || !note.is_empty() {
+        console.say(&format!("\n{alone}{note}"))?;
     }
     let mut names = batch::names(&found, &run).peekable();
     if names.peek().is_some() {
@@ -64,11 +72,21 @@ fn run(options: &Options, console: &mut Console) -> Outcome {
     status(&run, required)
 }
 
-/// The table, unless the judge refuses it on no samples, 12 and 13 included.
-fn accepted(table: &[u8]) -> Result<Reaching, Refusal> {
+/// The table and its engines, unless they refuse it on no samples, with 12 and 13 too. Where only the plain
+/// one judges and `--asked` needs the rows of the fast one, that one's refusal stands.
+fn accepted(
+    engine: Engine,
+    required: Required,
+    table: &[u8],
+) -> Result<(Reaching, Engines), Unjudged> {
+    let engines = Engines::of(engine, table)?;
     let reaching = Reaching::of(table)?;
-    reaching.judged(&mut Judge::new(), &[])?;
-    Ok(reaching)
+    match engines.past() {
+        Some(refusal) if required.asked && !reaching.implications().is_empty() => {
+            Err(Unjudged::Refused(refusal))
+        }
+        _ => Ok((reaching, engines)),
+    }
 }
 
 /// The table, and the folders and records.
@@ -89,10 +107,20 @@ fn no_record(given: &[PathBuf], others: usize) -> Failure {
     Failure::Failed(words)
 }
 
-/// A file that cannot be read weighs more than a refused one, and that more than a low level.
+/// A difference between the engines weighs most, then a file that cannot be read, then a refused one, and then
+/// a low level.
 fn status(run: &Run, required: Required) -> Outcome {
     let count =
         |wanted: &dyn Fn(&Answer) -> bool| run.answers.iter().filter(|it| wanted(it)).count();
+    let differ = count(&|answer| matches!(answer, Answer::Differ(_)));
+    if differ > 0 {
+        let words = format!(
+            "the two engines differ on {differ} of {} records, which is a defect of Xistomar: please report it, with the \
+             table and those records: the report ends with their names",
+            run.answers.len()
+        );
+        return Err(Failure::Differ(words));
+    }
     let unreadable = count(&|answer| matches!(answer, Answer::Unreadable(_)));
     if unreadable > 0 {
         let all = run.answers.len();
@@ -110,6 +138,7 @@ fn status(run: &Run, required: Required) -> Outcome {
 
 const HELP: &str = "\
 kit batch TABLE DIR|FILES.. [--require N] [--tested] [--asked] [--once] [--list]
+                            [--engine both|fast|plain]
 
 Judges many records by one table and reports how many held, are open or broken, are refused, or
 could not be read. Of a folder every file below it whose name ends in .svw is judged, by name; links
@@ -128,6 +157,9 @@ longest to judge, reading not counted.
   --asked           every record must ask every |->: its left side must match from a sample at which
                     the |-> was reached
   --once            what is asked at the first sample only is meant so, and no word is said of it
+  --engine WHICH    both, which is the default, fast, which is the quickest, or plain, as for kit
+                    judge. Where the plain engine judges alone the report says so, and does not
+                    say of |-> which were asked
   --list            before the report, a line for each record in order and then an empty one:
                     run/0001.svw: level 2 tested yes
                     run/0004.svw: level 2 tested yes, a |-> never asked
@@ -138,7 +170,39 @@ Example, for every record of tonight's run, none of them broken:
 
   $ kit batch flush.svt run/ --require 1
 
-The status is 4 where a file or a folder could not be read, or else 3 where a record is refused (or
-the table, and then nothing is judged), or else 1 where a record does not reach what --require,
---tested and --asked ask, or else 0. It is 2 for a wrong command line.
+The status is 5 where the engines differ on a record, or else 4 where a file or a folder could not
+be read, or else 3 where a record is refused (or the table, and then nothing is judged), or else 1
+where a record does not reach what --require, --tested and --asked ask, or else 0. It is 2 for a
+wrong command line.
 ";
+
+#[cfg(test)]
+mod tests {
+    use super::*;
+    use crate::engine::Difference;
+    use xistomar::{Judgement, Level};
+
+    /// A difference between the engines weighs more than a file that cannot be read.
+    #[test]
+    fn a_difference_weighs_most() {
+        let judgement = |tested| Judgement {
+            level: Level::Strong,
+            tested,
+        };
+        let difference = Difference {
+            fast: Ok(judgement(true)),
+            plain: Ok(judgement(false)),
+            samples: 0,
+        };
+        let unreadable = Answer::Unreadable("there is no such file".to_string());
+        let answers = vec![unreadable, Answer::Differ(difference)];
+        let run = Run {
+            answers,
+            slowest: None,
+        };
+        let failure = status(&run, Required::default()).unwrap_err();
+        assert_eq!(failure.status(), 5);
+        let begins = "the two engines differ on 1 of 2 records, which is a defect";
+        assert!(failure.words().starts_with(begins), "{}", failure.words());
+    }
+}

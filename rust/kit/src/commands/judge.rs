@@ -1,12 +1,13 @@
 //! `kit judge`: the verdict in words.
 use super::Command;
 use crate::console::Console;
+use crate::engine::Engine;
 use crate::failure::{Outcome, BELOW, DONE, REFUSED};
 use crate::files;
 use crate::options::{Options, Spec};
 use crate::required::Required;
 use crate::source::{self, Source};
-use crate::verdict::{self, Account, Refused};
+use crate::verdict::{self, Account, Refused, Stopped};
 use std::path::Path;
 
 /// The command.
@@ -14,7 +15,7 @@ pub const COMMAND: Command = Command {
     name: "judge",
     help: HELP,
     spec: Spec {
-        values: &["--names", "--require"],
+        values: &["--names", "--require", "--engine"],
         flags: &["--json", "--tested", "--asked", "--once"],
     },
     run,
@@ -23,14 +24,21 @@ pub const COMMAND: Command = Command {
 fn run(options: &Options, console: &mut Console) -> Outcome {
     let [table, record] = options.files(["TABLE", "RECORD"])?;
     let required = Required::of(options)?;
+    let engine = Engine::of(options)?;
     let source = source::table(table, options.value("--names").map(Path::new))?;
     let bytes = files::read(record)?;
-    let judged = judged(&source, &bytes);
+    let judged = match judged(engine, required, &source, &bytes) {
+        Err(Stopped::Differ(difference)) => return Err(difference.failure(&[table, record])),
+        Err(Stopped::Refused(refused)) => Err(refused),
+        Ok(account) => Ok(account),
+    };
     let json = options.flag("--json");
     console.say(&match &judged {
         Ok(account) if json => format!("{}\n", verdict::object(account, required)),
         Ok(account) => verdict::words(account, required, options.flag("--once")),
-        Err(refused) if json => format!("{}\n", verdict::refusal_object(*refused, required)),
+        Err(refused) if json => {
+            format!("{}\n", verdict::refusal_object(*refused, engine, required))
+        }
         Err(refused @ Refused::Table(_)) => verdict::refusal_words(*refused, table, &source.table),
         Err(refused @ Refused::Record(_)) => verdict::refusal_words(*refused, record, &bytes),
     })?;
@@ -41,13 +49,26 @@ fn run(options: &Options, console: &mut Console) -> Outcome {
     })
 }
 
-fn judged(source: &Source, record: &[u8]) -> Result<Account, Refused> {
-    let samples = verdict::samples(&source.table, record)?;
-    verdict::account(&source.table, &source.names, &samples).map_err(Refused::Table)
+/// Judges a record. Where the plain engine judged alone because the fast one refuses, and what is required
+/// is read off the fast one's rows, that refusal is the answer.
+fn judged(
+    engine: Engine,
+    required: Required,
+    source: &Source,
+    record: &[u8],
+) -> Result<Account, Stopped> {
+    let (mut engines, samples) = verdict::ready(engine, &source.table, record)?;
+    let account = verdict::account(&mut engines, &source.table, &source.names, &samples);
+    let account = account.map_err(Stopped::by_table)?;
+    match (account.past, account.judged().asked) {
+        (Some(refusal), None) if required.asked => Err(Stopped::Refused(Refused::Table(refusal))),
+        _ => Ok(account),
+    }
 }
 
 const HELP: &str = "\
-kit judge TABLE RECORD [--names FILE.txt] [--require N] [--tested] [--asked] [--once] [--json]
+kit judge TABLE RECORD [--names FILE.txt] [--require N] [--tested] [--asked] [--once]
+                       [--engine both|fast|plain] [--json]
 
 Judges a record by an assertion, and says why.
 
@@ -62,6 +83,13 @@ explains the level.
 The levels: 3 held whatever comes next, 2 held as the record stands, 1 nothing broken and still
 waiting, 0 broken.
 
+Two engines judge, each proved by itself. The fast one rewrites the clocks of the table away, and
+refuses it with 13 where that takes more than 120 nodes; the plain one reads the table as it is.
+Both are asked, of every beginning of the record. That they agree is proved; should they differ all
+the same, that is a defect of Xistomar, which is told with both answers and status 5. Where the fast
+one alone refuses, with 13, the plain one judges alone, and it is said that it did: then there are
+no rows to read off which |-> were asked and which part was decisive, and neither is told.
+
   TABLE             a .svt file, or a text whose name ends in .txt
   RECORD            a .svw file of at most 63 samples
   --names FILE.txt  a text that declares the signals' names, for a .svt; without it signal 3 is s3
@@ -70,18 +98,23 @@ waiting, 0 broken.
   --asked           the record must ask every |->: its left side must match from a sample at which
                     the |-> was reached
   --once            what is asked at the first sample only is meant so, and no word is said of it
+  --engine WHICH    both, which is the default; fast, which refuses tables with 13; or plain, which
+                    cannot have --asked
   --json            one JSON object on one line instead
 
 The JSON object has every key always, null or empty where there is nothing to say:
 
   line          the first line, as above
+  engine        the engines that judged: both, fast or plain, where plain may also be what both came
+                to; of a refusal those that were asked for
   level         0 to 3; name and meaning say it in words
   tested        true or false
   implications  each |->, in the order of the table: {\"node\":11,\"part\":\"..\",\"left\":\"..\",
                 \"reached\":[0,1],\"matched\":[1],\"asked\":true}; node is its place in the table, part
                 its text and left that of its left side; reached are the samples from which it was
                 reached, where the number of samples is the end of the record; matched are those at
-                which its left side then matched, and asked is false where there are none
+                which its left side then matched, and asked is false where there are none; null
+                where the plain engine judged alone and there are any, for it cannot tell
   once          true where something is asked at the first sample only, with --once and without
   assertion     the assertion as text
   signals       the signals that it asks about: [{\"number\":0,\"name\":\"ack\"},..]
@@ -93,18 +126,19 @@ The JSON object has every key always, null or empty where there is nothing to sa
                 the sample from which it was asked and level its own level there; turned is true
                 under an odd number of nots, where the assertion's level is 3 minus this one; closed
                 is the sample at which it closed; matched is [first,last], the samples that a strong
-                or weak part matched
+                or weak part matched; null where the plain engine judged alone
   required      {\"level\":3,\"tested\":false,\"asked\":false,\"reached\":false}: what was required, and
                 whether all of it is reached
   refused       null, or {\"file\":\"table\",\"number\":9,\"node\":3,\"reason\":\"..\"}
 
-For a message on standard error (status 2 or 4) there is no object.
+For a message on standard error (status 2, 4 or 5) there is no object.
 
 Example, which fails a script unless the flush was durable and the record shows it:
 
   $ kit judge flush.svt run/0001.svw --require 2 --asked
 
 The status is 0 for a record that was judged, 1 where --require, --tested or --asked is not reached,
-2 for a wrong command line, 3 where the table or the record is refused, and 4 where a file cannot be
-read or understood.
+2 for a wrong command line, 3 where the table or the record is refused (with 13 too, where --asked
+is given and only the plain engine judges the table), 4 where a file cannot be read or understood,
+and 5 where the engines differ.
 ";

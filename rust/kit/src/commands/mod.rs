@@ -107,6 +107,6 @@ The levels: 3 held whatever comes next, 2 held as the record stands, 1 nothing b
 waiting, 0 broken. A 3 or a 0 is closed: a longer record never overturns it.
 
 The status is 0 when all is done, 1 where what --require, --tested and --asked ask is not reached,
-2 for a wrong command line, 3 where a table or a record is refused, and 4 where a file cannot be
-read, written or understood.
+2 for a wrong command line, 3 where a table or a record is refused, 4 where a file cannot be read,
+written or understood, and 5 where the two engines that judge differ, which is a defect.
 ";

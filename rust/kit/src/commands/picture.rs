@@ -1,13 +1,14 @@
 //! `kit picture`: the verdict as a picture.
 use super::Command;
 use crate::console::Console;
+use crate::engine::Engine;
 use crate::failure::{Outcome, DONE};
 use crate::files;
 use crate::options::{Options, Spec};
 use crate::picture::{self, Scene};
 use crate::refusals;
 use crate::source;
-use crate::verdict::{self, Refused};
+use crate::verdict::{self, Refused, Stopped};
 use crate::words;
 use std::path::Path;
 
@@ -16,7 +17,7 @@ pub const COMMAND: Command = Command {
     name: "picture",
     help: HELP,
     spec: Spec {
-        values: &["-o", "--names"],
+        values: &["-o", "--names", "--engine"],
         flags: &[],
     },
     run,
@@ -25,30 +26,33 @@ pub const COMMAND: Command = Command {
 fn run(options: &Options, console: &mut Console) -> Outcome {
     let [table, record] = options.files(["TABLE", "RECORD"])?;
     let output = options.output()?;
+    let engine = Engine::of(options)?;
     let names = options.value("--names").map(Path::new);
     let source = source::table(table, names)?;
     let bytes = files::read(record)?;
-    let refused = |refused: Refused| {
-        let path = match refused {
-            Refused::Table(_) => table,
-            Refused::Record(_) => record,
-        };
-        refusals::failure(path, refused.refusal())
+    let stopped = |stopped: Stopped| match stopped {
+        Stopped::Refused(Refused::Table(refusal)) => refusals::failure(table, refusal),
+        Stopped::Refused(Refused::Record(refusal)) => refusals::failure(record, refusal),
+        Stopped::Differ(difference) => difference.failure(&[table, record]),
     };
-    let samples = verdict::samples(&source.table, &bytes).map_err(refused)?;
-    let scene = Scene::of(&source.table, &source.names, &samples)
-        .map_err(|refusal| refused(Refused::Table(refusal)))?;
+    let (mut engines, samples) = verdict::ready(engine, &source.table, &bytes).map_err(stopped)?;
+    let scene = Scene::of(&mut engines, &source.table, &source.names, &samples)
+        .map_err(|unjudged| stopped(Stopped::by_table(unjudged)))?;
     let inputs = [Some(table.as_path()), Some(record), names];
     let inputs: Vec<&Path> = inputs.into_iter().flatten().collect();
     files::write(&output, picture::draw(&scene).as_bytes(), &inputs)?;
     let (shown, line) = (files::shown(&output), scene.verdict.judgement);
     let count = words::count(samples.len(), "sample");
-    console.say(&format!("{shown}: {line}, {count}\n"))?;
+    let alone = match engines.engine() {
+        Engine::Plain => ", judged by the plain engine alone",
+        _ => "",
+    };
+    console.say(&format!("{shown}: {line}, {count}{alone}\n"))?;
     Ok(DONE)
 }
 
 const HELP: &str = "\
-kit picture TABLE RECORD [--names FILE.txt] -o FILE.svg
+kit picture TABLE RECORD [--names FILE.txt] [--engine both|fast|plain] -o FILE.svg
 
 Draws the verdict on a record as an SVG picture, and prints its level in one line. Any browser opens
 the picture; it has no scripts and needs no other file.
@@ -71,6 +75,9 @@ flag the level is open at the end of the record.
   TABLE             a .svt file, or a text whose name ends in .txt
   RECORD            a .svw file of at most 63 samples
   --names FILE.txt  a text that declares the signals' names, for a .svt; without it signal 3 is s3
+  --engine WHICH    both, which is the default, fast or plain, as for kit judge. Where the plain
+                    engine judges alone there are no rows for |-> and no decisive part, and the
+                    picture and the line say so
   -o FILE.svg       where the picture goes
 
 Example:
@@ -79,6 +86,6 @@ Example:
   flush.svg: level 1 tested yes, 3 samples
 
 The status is 0 when the picture is written, 2 for a wrong command line, 3 where the table or the
-record is refused, and 4 where a file cannot be read, written or understood. Only with status 0 is
-anything written.
+record is refused, 4 where a file cannot be read, written or understood, and 5 where the engines
+differ. Only with status 0 is anything written.
 ";

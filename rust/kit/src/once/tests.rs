@@ -158,8 +158,9 @@ fn what_would_be_too_large_is_not_suggested() {
     assert_eq!(
         clocked.words(),
         "Asked once: the whole assertion, at the first sample only. (..) until strong(0) around it asks at \
-         every tick, but then the judge refuses it with 13, rewritten count over 120: under a clock each \
-         letter counts 9 nodes, each nexttime 14 and each until 9.\n\
+         every tick, but then the fast engine and the program refuse it with 13, rewritten count over 120: \
+         under a clock each letter counts 9 nodes, each nexttime 14 and each until 9; the plain engine judges \
+         it.\n\
          Say with --once that once is meant.\n"
     );
 }

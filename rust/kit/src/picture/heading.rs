@@ -16,8 +16,8 @@ fn words(scene: &Scene) -> Vec<&'static str> {
     let judgement = scene.verdict.judgement;
     let mut words = vec![judgement.level.meaning()];
     match (judgement.tested, scene.asked) {
-        (true, true) => {}
-        (true, false) => words.push("tested, but not every |-> was asked"),
+        (true, Some(false)) => words.push("tested, but not every |-> was asked"),
+        (true, _) => {}
         (false, _) => words.push("not tested: no strong and no weak was reached"),
     }
     words

@@ -1,8 +1,11 @@
 //! What a picture shows, as the judge answered it.
 use crate::assertion::{Assertion, Operator};
+use crate::engine::{Engines, Unjudged};
 use crate::names::Names;
 use crate::notation;
-use crate::verdict::{self, implication_words, part_words, Implication, Verdict};
+use crate::verdict::{
+    self, implication_words, part_words, unexplained_words, Account, Implication, Verdict,
+};
 use xistomar::Refusal;
 
 /// A row of the picture: what it is called, and at which samples it is 1.
@@ -41,7 +44,7 @@ pub struct ImplicationRow {
 pub struct Scene {
     /// The assertion in the notation.
     pub assertion: String,
-    /// Which part was decisive, in words.
+    /// Which part was decisive, or why that is not told, in words.
     pub decisive: String,
     /// The clocks and where they tick.
     pub clocks: Vec<Trace>,
@@ -51,8 +54,8 @@ pub struct Scene {
     pub signals: Vec<Trace>,
     /// Whether the record tested the assertion and which `|->` it asked, in words.
     pub tested: String,
-    /// Whether every `|->` was asked.
-    pub asked: bool,
+    /// Whether every `|->` was asked, where it is told.
+    pub asked: Option<bool>,
     /// The `|->`.
     pub implications: Vec<ImplicationRow>,
     /// The levels.
@@ -60,9 +63,14 @@ pub struct Scene {
 }
 
 impl Scene {
-    /// Asks the judge about a table and samples.
-    pub fn of(table: &[u8], names: &Names, samples: &[u64]) -> Result<Scene, Refusal> {
-        let account = verdict::account(table, names, samples)?;
+    /// Asks the engines about a table and samples.
+    pub fn of(
+        engines: &mut Engines,
+        table: &[u8],
+        names: &Names,
+        samples: &[u64],
+    ) -> Result<Scene, Unjudged> {
+        let account = verdict::account(engines, table, names, samples)?;
         let assertion = Assertion::of_table(table)?.tidy();
         let boolean = |index: usize| -> Result<Trace, Refusal> {
             Ok(Trace {
@@ -80,10 +88,11 @@ impl Scene {
             name: names.name(number),
             values: samples.iter().map(|sample| high(*sample, number)).collect(),
         };
-        let implications = account.implications.iter();
+        let explained = account.explained.iter();
+        let implications = explained.flat_map(|explained| &explained.implications);
         let implications = implications.map(|implication| row(implication, samples.len()));
         Ok(Scene {
-            decisive: part_words(&account),
+            decisive: why(&account),
             tested: implication_words(&account),
             asked: account.judged().asked,
             implications: implications.collect(),
@@ -97,6 +106,14 @@ impl Scene {
             signals: shown(&assertion, names).into_iter().map(signal).collect(),
             verdict: account.verdict,
         })
+    }
+}
+
+/// The decisive part in words, or why it is not told.
+fn why(account: &Account) -> String {
+    match &account.explained {
+        Some(explained) => part_words(account, explained),
+        None => unexplained_words(account),
     }
 }
 

@@ -3,6 +3,7 @@ use super::decisive::{decisive, Decisive};
 use super::implications::{implications, Implication};
 use super::{verdict, Judged, Verdict};
 use crate::assertion::{Assertion, Operator};
+use crate::engine::{Engine, Engines, Unjudged};
 use crate::names::Names;
 use crate::notation::phrase;
 use crate::once::Once;
@@ -13,14 +14,27 @@ use xistomar::Refusal;
 pub struct Account {
     /// The judgement, and the level after each sample.
     pub verdict: Verdict,
+    /// The engines that judged.
+    pub engine: Engine,
+    /// The fast engine's refusal, where the plain one judged alone for that.
+    pub past: Option<Refusal>,
     /// The assertion.
     pub assertion: String,
     /// The signals that it asks about, with their names.
     pub signals: Vec<(u8, String)>,
-    /// Its `|->`, in the order of the table.
-    pub implications: Vec<Implication>,
+    /// Whether it has a `|->`.
+    pub implies: bool,
     /// What it asks at the first sample only, if anything.
     pub once: Option<Once>,
+    /// What the rows of the fast engine tell, where it judged.
+    pub explained: Option<Explained>,
+}
+
+/// What explains a level.
+#[derive(Clone, Debug)]
+pub struct Explained {
+    /// The `|->` of the assertion, in the order of the table.
+    pub implications: Vec<Implication>,
     /// The decisive part.
     pub decisive: Decisive,
     /// The decisive part under its clock.
@@ -31,20 +45,55 @@ pub struct Account {
     pub whole: bool,
 }
 
-/// Judges the samples by a table and explains the level. A refusal is the table's or, above 63 samples,
-/// the record's.
-pub fn account(table: &[u8], names: &Names, samples: &[u64]) -> Result<Account, Refusal> {
-    let verdict = verdict(table, samples)?;
+/// Judges the samples by a table and explains the level, as far as its engines tell. A refusal is the
+/// table's or, above 63 samples, the record's.
+pub fn account(
+    engines: &mut Engines,
+    table: &[u8],
+    names: &Names,
+    samples: &[u64],
+) -> Result<Account, Unjudged> {
+    let verdict = verdict(engines, table, samples)?;
     let assertion = Assertion::of_table(table)?;
-    let decisive = decisive(&assertion, samples, &verdict)?;
-    let part = assertion.part(decisive.node);
+    let explained = match engines.rows() {
+        Some(_) => {
+            let implications = implications(table, names, samples)?;
+            Some(explained(
+                &assertion,
+                names,
+                samples,
+                &verdict,
+                implications,
+            )?)
+        }
+        None => None,
+    };
     let signals = assertion.signals().into_iter();
+    let mut nodes = assertion.nodes().iter();
     Ok(Account {
         verdict,
+        engine: engines.engine(),
+        past: engines.past(),
         assertion: phrase(&assertion, assertion.root(), names),
         signals: signals.map(|signal| (signal, names.name(signal))).collect(),
-        implications: implications(table, names, samples)?,
+        implies: nodes.any(|node| node.operator == Operator::Implies),
         once: Once::of(&assertion, names),
+        explained,
+    })
+}
+
+/// What the fast engine's rows tell of an assertion that it accepts, and of its `|->`.
+fn explained(
+    assertion: &Assertion,
+    names: &Names,
+    samples: &[u64],
+    verdict: &Verdict,
+    implications: Vec<Implication>,
+) -> Result<Explained, Refusal> {
+    let decisive = decisive(assertion, samples, verdict)?;
+    let part = assertion.part(decisive.node);
+    Ok(Explained {
+        implications,
         decisive,
         part: phrase(&part, part.root(), names),
         operator: assertion.node(decisive.node).operator,
@@ -55,9 +104,13 @@ pub fn account(table: &[u8], names: &Names, samples: &[u64]) -> Result<Account, 
 impl Account {
     /// What is held against the caller's requirements.
     pub fn judged(&self) -> Judged {
+        let all = |explained: &Explained| explained.implications.iter().all(Implication::asked);
         Judged {
             judgement: self.verdict.judgement,
-            asked: self.implications.iter().all(Implication::asked),
+            asked: match &self.explained {
+                Some(explained) => Some(all(explained)),
+                None => (!self.implies).then_some(true),
+            },
         }
     }
 }

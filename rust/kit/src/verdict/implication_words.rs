@@ -1,22 +1,23 @@
 //! Whether the record tested the assertion, and which `|->` were asked, in words.
-use super::account::Account;
+use super::account::{Account, Explained};
 use super::implications::Implication;
 use crate::words;
 
 /// Whether the record tested the assertion, and then a line for each `|->`.
 pub fn implication_words(account: &Account) -> String {
     let judged = account.judged();
-    let mut text = match (judged.judgement.tested, judged.asked) {
-        (true, true) => "Tested: the record put the assertion to the test.\n",
-        (true, false) => "Tested, but not every |-> was asked.\n",
+    let tested = match (judged.judgement.tested, judged.asked) {
+        (true, Some(false)) => "Tested, but not every |-> was asked.\n",
+        (true, _) => "Tested: the record put the assertion to the test.\n",
         (false, _) => "Not tested: no strong and no weak of the assertion was reached.\n",
-    }
-    .to_string();
+    };
     let samples = account.verdict.samples();
-    for implication in &account.implications {
-        text.push_str(&line(implication, samples));
-    }
-    text
+    let lines = |explained: &Explained| -> String {
+        let implications = explained.implications.iter();
+        implications.map(|it| line(it, samples)).collect()
+    };
+    let lines = account.explained.as_ref().map(lines);
+    tested.to_string() + &lines.unwrap_or_default()
 }
 
 fn line(implication: &Implication, samples: usize) -> String {

@@ -12,6 +12,7 @@ mod rows;
 mod suffixes;
 #[cfg(test)]
 mod tests;
+mod unexplained;
 mod words;
 
 pub use account::{account, Account};
@@ -21,9 +22,11 @@ pub use object::{object, refusal_object};
 pub use part_words::part_words;
 pub use reached::Reaching;
 pub use suffixes::Suffixes;
+pub use unexplained::unexplained_words;
 pub use words::{refusal_words, words};
 
 use crate::assertion::Assertion;
+use crate::engine::{Difference, Engine, Engines, Unjudged};
 use crate::refusals;
 use xistomar::{Judge, Judgement, Level, Refusal};
 
@@ -50,14 +53,13 @@ impl Verdict {
     }
 }
 
-/// Judges a table on the samples and on each beginning of them.
-pub fn verdict(table: &[u8], samples: &[u64]) -> Result<Verdict, Refusal> {
-    let mut judge = Judge::new();
-    let judgement = judge.judge(table, samples)?;
+/// Judges a table on the samples and on each beginning of them, each by all of the engines.
+pub fn verdict(engines: &mut Engines, table: &[u8], samples: &[u64]) -> Result<Verdict, Unjudged> {
+    let judgement = engines.judge(table, samples)?;
     let beginnings = (0..=samples.len()).filter_map(|count| samples.get(..count));
     let levels = beginnings
-        .map(|beginning| Ok(judge.judge(table, beginning)?.level))
-        .collect::<Result<_, _>>()?;
+        .map(|beginning| Ok(engines.judge(table, beginning)?.level))
+        .collect::<Result<_, Unjudged>>()?;
     Ok(Verdict { judgement, levels })
 }
 
@@ -78,8 +80,8 @@ pub fn satisfied(
 pub struct Judged {
     /// The judge's answer.
     pub judgement: Judgement,
-    /// Whether every `|->` was asked.
-    pub asked: bool,
+    /// Whether every `|->` was asked; none where the plain engine judged alone, which cannot tell.
+    pub asked: Option<bool>,
 }
 
 /// A refusal, and the file that it is of.
@@ -113,9 +115,29 @@ impl Refused {
     }
 }
 
-/// The samples of a record that is to be judged by a table. The table's refusals, with 12 and 13,
-/// come before the record's.
-pub fn samples(table: &[u8], record: &[u8]) -> Result<Vec<u64>, Refused> {
-    Judge::new().judge(table, &[]).map_err(Refused::Table)?;
-    xistomar::samples(record).map_err(Refused::Record)
+/// Why a record is not judged by a table.
+#[derive(Clone, Copy, Debug, PartialEq, Eq)]
+pub enum Stopped {
+    /// One of the files is refused.
+    Refused(Refused),
+    /// The engines differ.
+    Differ(Difference),
+}
+
+impl Stopped {
+    /// The same where a refusal can only be the table's.
+    pub fn by_table(unjudged: Unjudged) -> Stopped {
+        match unjudged {
+            Unjudged::Refused(refusal) => Stopped::Refused(Refused::Table(refusal)),
+            Unjudged::Differ(difference) => Stopped::Differ(difference),
+        }
+    }
+}
+
+/// The engines for a table, and the samples of a record that they are to judge. The table's refusals,
+/// with 12 and 13, come before the record's.
+pub fn ready(engine: Engine, table: &[u8], record: &[u8]) -> Result<(Engines, Vec<u64>), Stopped> {
+    let engines = Engines::of(engine, table).map_err(Stopped::by_table)?;
+    let refused = |refusal| Stopped::Refused(Refused::Record(refusal));
+    Ok((engines, xistomar::samples(record).map_err(refused)?))
 }

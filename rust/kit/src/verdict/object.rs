@@ -5,6 +5,7 @@
 //! | key | value |
 //! |---|---|
 //! | `line` | the program's line, `level 1 tested yes` or `refused 9 at 3` |
+//! | `engine` | the engines that judged, or that were asked where the record is refused: `both`, `fast` or `plain` |
 //! | `level`, `name`, `meaning` | the level, 0 to 3, its name and its meaning in words |
 //! | `tested` | whether the record tested the assertion |
 //! | `implications` | each `\|->`: its `node` in the table, the `part` in the notation and its `left` side, the samples from which it was `reached` (the number of samples is the end of the record), those at which its left side then `matched`, and whether it was `asked`, that is whether there are any |
@@ -18,13 +19,14 @@
 //! | `required` | what was asked for: the `level` or `null`, `tested` and `asked`, with whether all of it is `reached` |
 //! | `refused` | `null`, or of a refusal the `file` (`table` or `record`), the `number`, the `node` and the `reason` |
 //!
-//! On a refusal `level`, `name`, `meaning`, `tested`, `once`, `assertion`, `samples`, `closed` and `decisive` are `null`,
-//! the lists are empty and nothing is reached.
-use super::account::Account;
-use super::decisive::Decisive;
+//! Where the plain engine judged alone, `decisive` is `null`, and so is `implications` if the assertion has any. On a
+//! refusal `level`, `name`, `meaning`, `tested`, `once`, `assertion`, `samples`, `closed` and `decisive` are `null`, the
+//! lists are empty and nothing is reached.
+use super::account::{Account, Explained};
 use super::implications::Implication;
 use super::json::Json;
 use super::Refused;
+use crate::engine::Engine;
 use crate::required::Required;
 use xistomar::Level;
 
@@ -32,18 +34,16 @@ use xistomar::Level;
 pub fn object(account: &Account, required: Required) -> Json {
     let judgement = account.verdict.judgement;
     let levels = account.verdict.levels.iter();
-    let implications = account.implications.iter();
     let signals = account.signals.iter();
+    let explained = account.explained.as_ref();
     Json::Object(vec![
         ("line", Json::text(judgement)),
+        ("engine", Json::text(account.engine.name())),
         ("level", number(judgement.level)),
         ("name", Json::text(judgement.level)),
         ("meaning", Json::text(judgement.level.meaning())),
         ("tested", Json::Truth(judgement.tested)),
-        (
-            "implications",
-            Json::List(implications.map(implication).collect()),
-        ),
+        ("implications", implications(account)),
         ("once", Json::Truth(account.once.is_some())),
         ("assertion", Json::text(&account.assertion)),
         ("signals", Json::List(signals.map(signal).collect())),
@@ -53,7 +53,7 @@ pub fn object(account: &Account, required: Required) -> Json {
             "closed",
             Json::maybe(account.verdict.closed(), Json::Number),
         ),
-        ("decisive", part(&account.decisive, &account.part)),
+        ("decisive", Json::maybe(explained, part)),
         (
             "required",
             wanted(required, required.reached(account.judged())),
@@ -63,7 +63,7 @@ pub fn object(account: &Account, required: Required) -> Json {
 }
 
 /// The object for a refusal.
-pub fn refusal_object(refused: Refused, required: Required) -> Json {
+pub fn refusal_object(refused: Refused, engine: Engine, required: Required) -> Json {
     let refusal = refused.refusal();
     let why = Json::Object(vec![
         ("file", Json::text(refused.file())),
@@ -73,6 +73,7 @@ pub fn refusal_object(refused: Refused, required: Required) -> Json {
     ]);
     Json::Object(vec![
         ("line", Json::text(refused.line())),
+        ("engine", Json::text(engine.name())),
         ("level", Json::Null),
         ("name", Json::Null),
         ("meaning", Json::Null),
@@ -101,6 +102,14 @@ fn signal((number, name): &(u8, String)) -> Json {
     ])
 }
 
+fn implications(account: &Account) -> Json {
+    match &account.explained {
+        Some(explained) => Json::List(explained.implications.iter().map(implication).collect()),
+        None if account.implies => Json::Null,
+        None => Json::List(vec![]),
+    }
+}
+
 fn implication(implication: &Implication) -> Json {
     let numbers = |samples: &[usize]| {
         let numbers = samples.iter().copied().map(Json::Number);
@@ -116,7 +125,8 @@ fn implication(implication: &Implication) -> Json {
     ])
 }
 
-fn part(decisive: &Decisive, part: &str) -> Json {
+fn part(explained: &Explained) -> Json {
+    let Explained { decisive, part, .. } = explained;
     let matched = |(first, last)| Json::List(vec![Json::Number(first), Json::Number(last)]);
     Json::Object(vec![
         ("node", Json::Number(decisive.node)),

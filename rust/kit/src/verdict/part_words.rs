@@ -1,18 +1,18 @@
 //! The decisive part in words.
-use super::account::Account;
+use super::account::{Account, Explained};
 use crate::assertion::Operator;
 use xistomar::Level;
 
 /// Which part was decisive, from which sample on it was asked, and what came of it.
-pub fn part_words(account: &Account) -> String {
-    let part = match account.whole {
+pub fn part_words(account: &Account, explained: &Explained) -> String {
+    let part = match explained.whole {
         true => "the whole assertion",
-        false => &account.part,
+        false => &explained.part,
     };
-    let from = from_words(account.decisive.from, account.verdict.samples());
-    let what = what_words(account);
+    let from = from_words(explained.decisive.from, account.verdict.samples());
+    let what = what_words(explained);
     let mut text = format!("Decisive: {part}, asked from {from}: {what}.\n");
-    if let Some(so) = consequence(account) {
+    if let Some(so) = consequence(account.verdict.judgement.level, explained) {
         text.push_str(so);
         text.push('\n');
     }
@@ -27,13 +27,13 @@ fn from_words(from: usize, samples: usize) -> String {
 }
 
 /// What came of the part: of a promise of a sequence its match, of other parts what counts in them.
-fn what_words(account: &Account) -> String {
-    let decisive = &account.decisive;
+fn what_words(explained: &Explained) -> String {
+    let decisive = &explained.decisive;
     let at = match decisive.closed {
         Some(sample) => format!(" at sample {sample}"),
         None => String::new(),
     };
-    let promise = matches!(account.operator, Operator::Strong | Operator::Weak);
+    let promise = matches!(explained.operator, Operator::Strong | Operator::Weak);
     match (decisive.level, decisive.matched) {
         (_, Some((first, last))) if first == last => format!("matched at sample {first}"),
         (_, Some((first, last))) => format!("matched by samples {first} to {last}"),
@@ -42,7 +42,7 @@ fn what_words(account: &Account) -> String {
             "still waiting for its match".to_string()
         }
         (_, _) if promise => "it has not matched yet, and still can".to_string(),
-        (level, _) => match (level, counting(account, level)) {
+        (level, _) => match (level, counting(explained, level)) {
             (Level::Broken, why) => format!("broken{at}{why}"),
             (Level::Weak, why) => format!("still waiting{why}"),
             (Level::Neutral, why) => format!("held so far{why}"),
@@ -52,12 +52,12 @@ fn what_words(account: &Account) -> String {
 }
 
 /// What counts in a part of which no operand alone is decisive.
-fn counting(account: &Account, level: Level) -> &'static str {
-    match (account.operator, level) {
-        (Operator::Implies, Level::Strong) if !account.decisive.asked => {
+fn counting(explained: &Explained, level: Level) -> &'static str {
+    match (explained.operator, level) {
+        (Operator::Implies, Level::Strong) if !explained.decisive.asked => {
             ", for its left side can no longer match from there: nothing was asked"
         }
-        (Operator::Implies, _) if !account.decisive.asked => {
+        (Operator::Implies, _) if !explained.decisive.asked => {
             ", for its left side has not matched from there yet"
         }
         (Operator::Implies, Level::Strong) => {
@@ -77,13 +77,12 @@ fn counting(account: &Account, level: Level) -> &'static str {
 
 /// What the part means for the assertion, where that is not plain: under `not` the levels are turned
 /// round, and an open assertion is never above its decisive part, however the record goes on.
-fn consequence(account: &Account) -> Option<&'static str> {
-    let level = account.verdict.judgement.level;
-    match (account.decisive.turned, level) {
+fn consequence(level: Level, explained: &Explained) -> Option<&'static str> {
+    match (explained.decisive.turned, level) {
         (true, Level::Broken) => Some("It stands under not, so that it broke the assertion."),
         (true, Level::Strong) => Some("It stands under not, so that the assertion held."),
         (true, _) => Some("It stands under not: once it holds for good, the assertion is broken."),
-        (false, Level::Weak | Level::Neutral) if !account.whole => {
+        (false, Level::Weak | Level::Neutral) if !explained.whole => {
             Some("Once it is broken, so is the assertion.")
         }
         _ => None,

@@ -19,6 +19,7 @@
 //! so that a record is judged once.
 use super::Judged;
 use crate::assertion::{Assertion, Operator, MOST_NODES};
+use crate::engine::{Engines, Unjudged};
 use xistomar::{Judge, Refusal, SHARE};
 
 /// A table with what is needed to tell where records reach the parts of its assertion, made once for all
@@ -68,17 +69,22 @@ impl Reaching {
         Ok(self.read_off(judge.workspace(), samples.len()))
     }
 
-    /// Judges a record, and answers whether it asked every `|->`: whether its left side matched from where
-    /// it was reached, and so the right side was reached.
-    pub fn judged(&self, judge: &mut Judge, samples: &[u64]) -> Result<Judged, Refusal> {
-        let judgement = judge.judge(&self.table, samples)?;
-        let mut asked = true;
-        if !self.implications.is_empty() {
-            let reached = self.read_off(judge.workspace(), samples.len());
-            let mut right_sides = self.implications.iter().map(|(_, right)| *right);
-            asked = right_sides.all(|right| reached.set(right) != 0);
-        }
+    /// Judges a record, and answers whether it asked every `|->`, as far as the engines tell.
+    pub fn judged(&self, engines: &mut Engines, samples: &[u64]) -> Result<Judged, Unjudged> {
+        let judgement = engines.judge(&self.table, samples)?;
+        let asked = match self.implications.is_empty() {
+            true => Some(true),
+            false => engines.rows().map(|rows| self.asked(rows, samples.len())),
+        };
         Ok(Judged { judgement, asked })
+    }
+
+    /// Whether a record asked every `|->`: whether its left side matched from where it was reached, and so
+    /// the right side was reached.
+    fn asked(&self, rows: &[u64], samples: usize) -> bool {
+        let reached = self.read_off(rows, samples);
+        let mut right_sides = self.implications.iter().map(|(_, right)| *right);
+        right_sides.all(|right| reached.set(right) != 0)
     }
 
     /// Where parts are reached, by the rows that the judge left.

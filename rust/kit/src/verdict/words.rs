@@ -2,7 +2,7 @@
 use super::account::Account;
 use super::implication_words::implication_words;
 use super::rows::rows;
-use super::{part_words, Refused};
+use super::{part_words, unexplained_words, Refused};
 use crate::files;
 use crate::refusals::{self, Kind};
 use crate::required::Required;
@@ -20,7 +20,10 @@ pub fn words(account: &Account, required: Required, once: bool) -> String {
     }
     text.push_str(&format!("\n{}\n", rows(&account.verdict.levels)));
     text.push_str(&closed_words(account));
-    text.push_str(&part_words::part_words(account));
+    text.push_str(&match &account.explained {
+        Some(explained) => part_words(account, explained),
+        None => unexplained_words(account),
+    });
     text.push_str(&required_words(account, required));
     text
 }
@@ -69,12 +72,14 @@ pub fn refusal_words(refused: Refused, path: &Path, bytes: &[u8]) -> String {
     let reason = refusal.reason();
     let mut text =
         format!("{line}\n\nThe {file} is refused with number {number}{place}: {reason}.\n");
-    if number == 12 {
-        text.push_str(
+    text.push_str(match number {
+        12 => {
             "This table is a sequence, and the judge takes a property: strong(..) or weak(..) around \
-             it makes one.\n",
-        );
-    }
+             it makes one.\n"
+        }
+        13 => refusals::PAST,
+        _ => "",
+    });
     let shown = files::shown(path);
     match (mark_words(refused, bytes), refused) {
         (Some(words), _) if number == 2 => text.push_str(&format!("{shown} {words}.\n")),

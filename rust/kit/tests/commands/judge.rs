@@ -142,7 +142,7 @@ fn json_is_one_line_and_has_the_same_status() {
     assert_eq!(said.status, 1);
     assert!(said
         .out
-        .starts_with(r#"{"line":"level 0 tested yes","level":0,"#));
+        .starts_with(r#"{"line":"level 0 tested yes","engine":"both","level":0,"#));
     assert!(said.out.ends_with("}\n"));
     assert_eq!(said.out.lines().count(), 1);
     let decisive = r#""from":1,"level":0,"turned":false,"closed":3,"matched":null}"#;
@@ -199,7 +199,9 @@ fn a_file_that_cannot_be_read_has_status_4() {
 
 /// Asserts that a refusal names its number, its node and its file.
 fn refused(folder: &Folder, table: &[u8], record: &[u8], number: u8, node: u8, file: &str) {
-    let said = judge_in(folder, table, record, &[]);
+    // with 13 the fast engine alone refuses
+    let engine = if number == 13 { "fast" } else { "both" };
+    let said = judge_in(folder, table, record, &["--engine", engine]);
     let line = format!("refused {number} at {node}");
     assert_eq!((said.status, said.line()), (3, line.as_str()));
     let place = match number {
@@ -215,7 +217,7 @@ fn refused(folder: &Folder, table: &[u8], record: &[u8], number: u8, node: u8, f
         said.out.contains("is a sequence, and the judge"),
         number == 12
     );
-    let json = judge_again(folder, &["--json"]).out;
+    let json = judge_again(folder, &["--json", "--engine", engine]).out;
     let object =
         format!(r#""refused":{{"file":"{file}","number":{number},"node":{node},"reason":""#);
     assert!(json.contains(&object), "{json}");
@@ -426,11 +428,17 @@ fn the_first_line_is_the_programs_on_random_and_damaged_inputs() {
     for (seed, input) in inputs {
         let line = xistomar::line(&input);
         let (table, record) = split(&input);
-        let said = judge_in(&folder, table, record, &[]);
+        // the program has the fast engine: with 13 it refuses what the plain one judges
+        let engine = if line == "refused 13 at 0" {
+            "fast"
+        } else {
+            "both"
+        };
+        let said = judge_in(&folder, table, record, &["--engine", engine]);
         assert_eq!(said.line(), line, "seed {seed}");
         let refused = line.starts_with("refused");
         assert_eq!(said.status, if refused { 3 } else { 0 });
-        let json = judge_again(&folder, &["--json"]);
+        let json = judge_again(&folder, &["--json", "--engine", engine]);
         assert_eq!(json.status, said.status);
         assert!(json.out.starts_with(&format!(r#"{{"line":"{line}","#)));
         *if refused { &mut refusals } else { &mut levels } += 1;

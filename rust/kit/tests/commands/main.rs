@@ -2,6 +2,7 @@
 //! for each command.
 mod bad_input;
 mod batch;
+mod engine;
 mod judge;
 mod options;
 mod picture;

@@ -123,7 +123,10 @@ fn what_the_judge_refuses_is_said_in_a_comment() {
     nodes.extend([[32, last, 0, 0], [40, 0, last + 1, 0]]);
     let (status, out) = shown(&table(&nodes));
     assert_eq!(status, 0);
-    assert!(out.starts_with("// the judge refuses it with 13"), "{out}");
+    assert!(
+        out.starts_with("// the fast engine and the program refuse it with 13"),
+        "{out}"
+    );
     let folder = Folder::new();
     let text = folder.file("large.txt", out);
     assert_eq!(

@@ -161,7 +161,7 @@ fn a_table_that_is_too_large_rewritten_is_written_with_a_warning() {
     assert_eq!((status, out), (0, said));
     assert!(
         err.starts_with(&format!(
-            "kit table: warning: {table}: the judge refuses it with 13"
+            "kit table: warning: {table}: the fast engine and the program refuse it with 13"
         )),
         "{err}"
     );

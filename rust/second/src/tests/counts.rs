@@ -2,8 +2,8 @@
 
 use crate::node::{clocks, Node, OPERATORS};
 use crate::rewriting::rewritten;
-use crate::table::{checked, Table};
-use crate::{answer, Answer, Case, Verdict};
+use crate::table::{checked, Table, MOST_NODES};
+use crate::{answer, Answer, Case, Judgement, Verdict};
 use std::collections::BTreeMap;
 
 /// What occurred how often, by name.
@@ -44,7 +44,9 @@ impl Counts {
         self.note(format!("case {}", kind(case)));
         match case {
             Case::Check { table } | Case::Rewrite { table, .. } => self.note_table(table),
-            Case::Judge { table, samples, .. } | Case::Ends { table, samples, .. } => {
+            Case::Judge { table, samples, .. }
+            | Case::Plain { table, samples }
+            | Case::Ends { table, samples, .. } => {
                 self.note_table(table);
                 self.note_samples(table, samples);
             }
@@ -134,6 +136,9 @@ impl Counts {
                 self.note(format!("tested {}", judged.tested));
                 self.note_inner(table, judged.tested);
             }
+            (Case::Plain { table, .. }, Answer::Plain(judged)) if number == 0 => {
+                self.note_past(table, judged);
+            }
             (_, Answer::Ends(ends, _)) if number == 0 => {
                 self.note(format!("top {}", ends.top));
                 self.note(format!("mask {}", ends.mask.count_ones().min(3)));
@@ -164,11 +169,25 @@ impl Counts {
         }
     }
 
+    /// Counts what the plain judge said of a table whose rewriting has more than
+    /// 120 nodes.
+    fn note_past(&mut self, table: &[u8], judged: &Judgement) {
+        let count = checked(table).map_or(0, |table| rewritten(&table.nodes).len());
+        if count > MOST_NODES {
+            self.note(format!("past level {}", judged.level));
+            self.note(format!("past tested {}", judged.tested));
+        }
+        if count > MOST_NODES + 100 {
+            self.note("past by 100".to_string());
+        }
+    }
+
     /// Counts which version or which node was refused with 3 or 6.
     fn note_fault(&mut self, case: &Case, verdict: Verdict) {
         let (bytes, name) = match case {
             Case::Check { table } | Case::Rewrite { table, .. } => (table, "table"),
-            Case::Judge { table, .. } | Case::Ends { table, .. } => (table, "table"),
+            Case::Judge { table, .. } | Case::Plain { table, .. } => (table, "table"),
+            Case::Ends { table, .. } => (table, "table"),
             Case::Read { record, .. } => (record, "record"),
             Case::Program { .. } => return,
         };
@@ -198,6 +217,7 @@ fn kind(case: &Case) -> &'static str {
         Case::Read { .. } => "read",
         Case::Rewrite { .. } => "rewrite",
         Case::Judge { .. } => "judge",
+        Case::Plain { .. } => "plain",
         Case::Ends { .. } => "ends",
         Case::Program { .. } => "program",
     }

@@ -4,14 +4,15 @@ use super::counts::Counts;
 use crate::node::OPERATORS;
 use crate::{answer, answer_text, parse_case, random_case};
 
-const SEEDS: u64 = 12_000;
+const SEEDS: u64 = 14_000;
 
 /// The refusals of each entry point, and its acceptance.
-const NUMBERS: [(&str, &[u8]); 6] = [
+const NUMBERS: [(&str, &[u8]); 7] = [
     ("check", &[0, 1, 2, 3, 4, 5, 6, 7, 8, 9]),
     ("read", &[0, 1, 2, 3, 5, 10, 15]),
     ("rewrite", &[0, 1, 2, 3, 4, 5, 6, 7, 8, 9, 13, 15]),
     ("judge", &[0, 1, 2, 3, 4, 5, 6, 7, 8, 9, 10, 11, 12, 13]),
+    ("plain", &[0, 1, 2, 3, 4, 5, 6, 7, 8, 9, 10, 12]),
     ("ends", &[0, 1, 2, 3, 4, 5, 6, 7, 8, 9, 10, 11, 12, 13, 14]),
     ("program", &[0, 1, 2, 3, 4, 5, 6, 7, 8, 9, 10, 12, 13]),
 ];
@@ -55,6 +56,16 @@ const USES: [&str; 18] = [
 
 const FLAGS: [&str; 4] = ["tested true", "tested false", "top true", "top false"];
 
+/// What the plain judge says of tables whose rewriting has too many nodes.
+const PAST: [&str; 6] = [
+    "past level 0",
+    "past level 1",
+    "past level 2",
+    "past level 3",
+    "past tested true",
+    "past tested false",
+];
+
 /// A name with each of some numbers.
 fn each<T: ToString>(name: &str, numbers: impl IntoIterator<Item = T>) -> Vec<String> {
     let named = |number: T| format!("{name} {}", number.to_string());
@@ -97,6 +108,8 @@ fn everything_occurs() {
     counts.at_least(20, ["m 121"]);
     counts.at_least(30, ["large"]);
     counts.at_least(10, ["long input"]);
+    counts.at_least(50, PAST);
+    counts.at_least(100, ["past by 100"]);
     counts.at_least(200, USES);
     counts.at_least(3, FAULTS);
     versions_are_even(&counts);
@@ -127,6 +140,8 @@ fn everything_is_stored() {
     counts.at_least(50, each("level", 0..=3));
     counts.at_least(50, FLAGS);
     counts.at_least(10, inner());
+    counts.at_least(10, PAST);
+    counts.at_least(10, ["past by 100"]);
     counts.at_least(20, USES);
     counts.at_least(1, FAULTS);
     versions_are_even(&counts);

@@ -6,10 +6,11 @@ use crate::meaning::Meaning;
 use crate::node::{clocks, Node, Sort};
 use crate::random::Random;
 use crate::rewriting::rewritten;
-use crate::table::{checked, table_bytes};
+use crate::table::{checked, table_bytes, Table, MOST_NODES};
 use crate::tested::Testing;
 use crate::words::Tail;
-use crate::{answer, check, judge, level, line, match_ends, random_case, read, rewrite};
+use crate::{answer, check, judge, level, line, match_ends, plain_judge, random_case};
+use crate::{read, rewrite};
 use crate::{Answer, Case, Verdict};
 
 const TAILS: [Tail; 3] = [Tail::Nothing, Tail::Top, Tail::Bottom];
@@ -135,6 +136,7 @@ fn rewriting_keeps_the_meaning() {
                     judged
                 );
                 if judged.verdict.accepted() {
+                    assert_eq!(plain_judge(&table, &samples), judged);
                     let row = 65 * (rewritten_count(&table) - 1);
                     let level = [2, 0, 1].map(|word: usize| words[row + word] & 1 == 1);
                     let first = level.iter().position(|&holds| holds).unwrap_or(3);
@@ -166,6 +168,37 @@ fn level_or_refusal_11(table: &[u8], samples: &[u64], given: Verdict) -> crate::
 /// The rewritten count of an accepted table.
 fn rewritten_count(table: &[u8]) -> usize {
     checked(table).map_or(0, |table| rewritten(&table.nodes).len())
+}
+
+/// The rewriting of a table says what the table says where it has too many nodes
+/// for a table, too: here it is only a list of nodes.
+#[test]
+fn rewriting_past_120_nodes_keeps_the_meaning() {
+    let mut compared = 0;
+    for seed in 0..2_000 {
+        let Case::Plain { table, samples } = random_case(seed) else {
+            continue;
+        };
+        let judged = plain_judge(&table, &samples);
+        let Ok(Table { nodes, .. }) = checked(&table) else {
+            continue;
+        };
+        let new = rewritten(&nodes);
+        if !judged.verdict.accepted() || new.len() <= MOST_NODES || samples.len() > 12 {
+            continue;
+        }
+        let mut meaning = Meaning::new(&new, &samples);
+        let from_zero = |tail| meaning.satisfies(new.len() - 1, None, 0, tail);
+        let answers = [Tail::Bottom, Tail::Nothing, Tail::Top].map(from_zero);
+        let first = answers.iter().position(|&holds| holds).unwrap_or(3);
+        assert_eq!(
+            3 - first,
+            usize::from(judged.level),
+            "{nodes:?} {samples:?}"
+        );
+        compared += 1;
+    }
+    assert!(compared > 50, "{compared}");
 }
 
 #[test]
@@ -215,7 +248,8 @@ fn no_bytes_cause_a_panic() {
     for _ in 0..20_000 {
         let mut bytes = match random_case(random.next()) {
             Case::Check { table } | Case::Rewrite { table, .. } => table,
-            Case::Judge { table, .. } | Case::Ends { table, .. } => table,
+            Case::Judge { table, .. } | Case::Plain { table, .. } => table,
+            Case::Ends { table, .. } => table,
             Case::Read { record, .. } => record,
             Case::Program { input } => input,
         };
@@ -230,6 +264,7 @@ fn no_bytes_cause_a_panic() {
         read(&bytes, &mut words);
         rewrite(&bytes, &mut [0; 90]);
         judge(&bytes, &samples, &mut words);
+        plain_judge(&bytes, &samples);
         match_ends(&bytes, &samples, start, &mut words);
     }
 }

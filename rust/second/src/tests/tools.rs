@@ -32,6 +32,14 @@ fn case_text_as_described() {
     assert_eq!(case_text(1, &empty), "rewrite 0 1:");
     let said = answer_text(1, &answer(&empty));
     assert_eq!(said, "1: refused 1 at 0, count 0, bytes ");
+    let (_, case) = parse_case("plain 5: 53 56 54 01 00 03 01 00*3 10 00*3 20 01 00 00 / 0*63")
+        .expect("a good line");
+    let said = answer_text(5, &answer(&case));
+    assert_eq!(said, "5: level 0 tested yes");
+    let (_, case) =
+        parse_case("plain 6: 53 56 54 01 00 02 01 00*3 10 00*3 / 0*64").expect("a good line");
+    let said = answer_text(6, &answer(&case));
+    assert_eq!(said, "6: refused 12 at 0, level 0 tested no");
     let (_, case) = parse_case("read 3 7: 53 56 57 01 00 01 05 00*7").expect("a good line");
     let said = answer_text(7, &answer(&case));
     assert_eq!(said, "7: 1 samples, words 5 7 7");
@@ -58,6 +66,9 @@ fn malformed_lines_are_told() {
         "judge 1 1: / 01",
         "judge 1 1: / 11112222333344445",
         "judge 1 1: / 1*101",
+        "plain 1: 00",
+        "plain 1 1: / 1",
+        "plain 1: / 1*101",
         "ends 1 1: / 1",
         "ends -1 1 1: / 1",
         "other 1: 00",
@@ -80,7 +91,10 @@ fn stored_sets_are_moderate_and_whole() {
     for (line, said) in cases.lines().zip(answers.lines()) {
         let (label, case) = parse_case(line).expect("a good line");
         assert_eq!(answer_text(label, &answer(&case)), said);
-        if let Case::Judge { table, samples, .. } | Case::Ends { table, samples, .. } = &case {
+        if let Case::Judge { table, samples, .. }
+        | Case::Plain { table, samples }
+        | Case::Ends { table, samples, .. } = &case
+        {
             n_63 += usize::from(samples.len() == 63);
             if let Ok(Table { version, nodes }) = checked(table) {
                 m_120 += usize::from(rewritten(&nodes).len() == 120);

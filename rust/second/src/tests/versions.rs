@@ -142,7 +142,9 @@ fn rewriting_copies_the_version() {
 fn table_of_case(case: &mut Case) -> Option<&mut Vec<u8>> {
     match case {
         Case::Check { table } | Case::Rewrite { table, .. } => Some(table),
-        Case::Judge { table, .. } | Case::Ends { table, .. } => Some(table),
+        Case::Judge { table, .. } | Case::Plain { table, .. } | Case::Ends { table, .. } => {
+            Some(table)
+        }
         Case::Program { input } => Some(input),
         Case::Read { .. } => None,
     }

@@ -1,5 +1,5 @@
 //! Tables and records made of nodes and samples, and what is asked of them.
-use xistomar::{Judge, Level, Refusal};
+use xistomar::{Judge, Judgement, Level, Refusal};
 
 /// A table of a version with these nodes: operator, x, y.
 pub fn table(version: u16, nodes: &[[u8; 3]]) -> Vec<u8> {
@@ -22,8 +22,16 @@ fn file<const SIZE: usize>(mark: &[u8; 3], version: u16, parts: &[[u8; SIZE]]) -
     bytes
 }
 
+/// What both engines answer: the judge, and the plain judge.
+pub fn judged(table: &[u8], samples: &[u64]) -> Judgement {
+    let judgement = Judge::new().judge(table, samples).unwrap();
+    assert_eq!(xistomar::plain_judge(table, samples), Ok(judgement));
+    judgement
+}
+
+/// The level that both engines answer.
 pub fn level(table: &[u8], samples: &[u64]) -> Level {
-    Judge::new().judge(table, samples).unwrap().level
+    judged(table, samples).level
 }
 
 /// The number and node of a refusal.

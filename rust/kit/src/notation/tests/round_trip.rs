@@ -19,7 +19,8 @@ fn random_tables(seed: u64) -> Vec<Vec<u8>> {
 fn random_table(seed: u64) -> Option<Vec<u8>> {
     match second::random_case(seed) {
         Case::Check { table } | Case::Rewrite { table, .. } => Some(table),
-        Case::Judge { table, .. } | Case::Ends { table, .. } => Some(table),
+        Case::Judge { table, .. } | Case::Plain { table, .. } => Some(table),
+        Case::Ends { table, .. } => Some(table),
         Case::Read { .. } | Case::Program { .. } => None,
     }
 }

@@ -35,7 +35,7 @@ fn a_row_marks_where_it_was_asked_and_where_it_was_only_reached() {
 #[test]
 fn a_row_is_called_by_its_left_side() {
     let names = Names::of(&["ack", "drop", "strobe"]);
-    let drawn = drawn(&Scene::of(FLUSH, &names, &[0]).unwrap());
+    let drawn = drawn(&scene_of(FLUSH, &names, &[0]));
     let rows = ["sample", "ack", "drop", "strobe", "ack |->", "level"];
     assert_eq!(texts(&drawn, "name"), rows);
 }

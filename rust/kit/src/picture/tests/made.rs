@@ -101,7 +101,7 @@ fn every_picture_is_well_formed_stands_alone_and_fits() {
         let table = accepted(&mut random);
         let count = [0, 1, 5, 63, random.below(64)][round % 5];
         let samples: Vec<u64> = (0..count).map(|_| random.next()).collect();
-        let scene = Scene::of(&table, &odd_names(&mut random), &samples).unwrap();
+        let scene = scene_of(&table, &odd_names(&mut random), &samples);
         let drawn = elements(&draw(&scene)).unwrap();
         assert_eq!(stands_alone(&drawn), Ok(()));
         assert_eq!(words_fit(&drawn), Ok(()));

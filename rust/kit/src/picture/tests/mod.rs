@@ -7,6 +7,7 @@ mod made;
 mod words;
 
 use super::{draw, Scene};
+use crate::engine::{Engine, Engines};
 use crate::names::Names;
 use crate::testing::{table, table_2};
 use elements::{elements, Element};
@@ -21,11 +22,17 @@ fn strong_a() -> Vec<u8> {
     table(&[[1, 0, 0], [16, 0, 0], [32, 1, 0]])
 }
 
+/// The scene of a table and samples, by both engines.
+fn scene_of(table: &[u8], names: &Names, samples: &[u64]) -> Scene {
+    let mut engines = Engines::of(Engine::Both, table).unwrap();
+    Scene::of(&mut engines, table, names, samples).unwrap()
+}
+
 /// The scene of a table whose signals 0, 1, .. have these names. Its assertion takes one line, its
 /// decisive part none, its clocks are called c, d, .. and its implications p, q, .. so that the layout does
 /// not depend on the notation.
 fn scene(table: &[u8], list: &[&str], samples: &[u64]) -> Scene {
-    let mut scene = Scene::of(table, &Names::of(list), samples).unwrap();
+    let mut scene = scene_of(table, &Names::of(list), samples);
     scene.assertion = "the assertion".to_string();
     scene.decisive = String::new();
     for (clock, name) in scene.clocks.iter_mut().zip('c'..) {

@@ -141,7 +141,7 @@ fn an_assertion_is_wrapped_at_spaces_and_never_cut_off() {
 fn the_decisive_part_stands_below_the_assertion() {
     let names = Names::of(&["ack", "drop", "strobe"]);
     // acknowledged at sample 1, and the supply drops at sample 2
-    let scene = Scene::of(FLUSH, &names, &[0, 1, 2]).unwrap();
+    let scene = scene_of(FLUSH, &names, &[0, 1, 2]);
     let drawn = drawn(&scene);
     let lines = texts(&drawn, "decisive").join(" ");
     let words =

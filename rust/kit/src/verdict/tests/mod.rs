@@ -11,8 +11,10 @@ mod suffixes;
 mod walk;
 
 use super::decisive::{decisive, Decisive};
-use super::verdict;
+use super::{Account, Verdict};
 use crate::assertion::Assertion;
+use crate::engine::{Engine, Engines, Unjudged};
+use crate::names::Names;
 use crate::testing;
 
 /// A table of these nodes, of version 2 where one of them rises or falls.
@@ -21,6 +23,21 @@ fn table(nodes: &[[u8; 3]]) -> Vec<u8> {
         true => testing::table_2(nodes),
         false => testing::table(nodes),
     }
+}
+
+/// The verdict of both engines; none where the plain one judges alone, which leaves no rows.
+fn verdict(table: &[u8], samples: &[u64]) -> Result<Verdict, Unjudged> {
+    let mut engines = Engines::of(Engine::Both, table)?;
+    match engines.past() {
+        Some(refusal) => Err(Unjudged::Refused(refusal)),
+        None => super::verdict(&mut engines, table, samples),
+    }
+}
+
+/// What is told of a table and samples by both engines.
+fn account(table: &[u8], names: &Names, samples: &[u64]) -> Result<Account, Unjudged> {
+    let mut engines = Engines::of(Engine::Both, table)?;
+    super::account(&mut engines, table, names, samples)
 }
 
 /// The decisive part of a table's assertion.

@@ -1,6 +1,7 @@
 //! P1 to P11 of document 01, and the flush of examples/flush.txt. a, b, c are signals 0, 1, 2.
-use super::super::samples;
+use super::super::ready;
 use super::{check, found};
+use crate::engine::Engine;
 
 /// strong(a ##1 b), or weak
 fn then(promise: u8) -> [[u8; 3]; 6] {
@@ -110,7 +111,7 @@ fn flush(record: &str) -> Vec<u64> {
     let table = std::fs::read(format!("{examples}flush.svt")).unwrap();
     assert_eq!(table, super::table(&FLUSH));
     let record = std::fs::read(format!("{examples}{record}.svw")).unwrap();
-    samples(&table, &record).unwrap()
+    ready(Engine::Both, &table, &record).unwrap().1
 }
 
 #[test]

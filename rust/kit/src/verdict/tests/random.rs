@@ -1,7 +1,7 @@
 //! What the decisive part promises, on random tables and records of the program `second`.
 use super::super::decisive::{decisive, Decisive};
-use super::super::{verdict, Verdict};
-use super::suffixes;
+use super::super::Verdict;
+use super::{suffixes, verdict};
 use crate::assertion::{Assertion, Builder, Operator, Sort};
 use crate::testing::{rising, Random};
 use second::{random_case, Case};

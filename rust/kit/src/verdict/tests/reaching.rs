@@ -4,6 +4,7 @@ use super::super::asked::Asked;
 use super::super::reached::{Reached, Reaching};
 use super::random::accepted;
 use crate::assertion::{Assertion, Operator, Sort};
+use crate::engine::{Engine, Engines};
 use std::collections::HashSet;
 use xistomar::{Judge, Level};
 
@@ -128,10 +129,11 @@ fn every_implication_is_asked_where_each_right_side_is_reached() {
         });
         let asked: Vec<bool> = asked.collect();
         let reaching = Reaching::of(&assertion.table()).unwrap();
-        let judged = reaching.judged(&mut Judge::new(), &samples).unwrap();
+        let mut engines = Engines::of(Engine::Both, &assertion.table()).unwrap();
+        let judged = reaching.judged(&mut engines, &samples).unwrap();
         assert_eq!(judged.judgement, verdict.judgement);
         let every = !asked.contains(&false);
-        assert_eq!(judged.asked, every, "{assertion:?} {samples:?}");
+        assert_eq!(judged.asked, Some(every), "{assertion:?} {samples:?}");
         seen[usize::from(every)] += usize::from(!asked.is_empty());
     }
     assert!(seen.iter().all(|count| *count > 300), "{seen:?}");

@@ -1,7 +1,8 @@
 //! The decisive part where signals rise and fall. Each record has a signal that is 1 both before and at
 //! the sample from which a part is asked: on the samples from there on alone it would have risen, and
 //! the part another level. a, b, c are signals 0, 1, 2.
-use super::super::{account, satisfied, words};
+use super::super::{satisfied, words};
+use super::account;
 use super::{check, found, table};
 use crate::assertion::Assertion;
 use crate::names::Names;

@@ -1,10 +1,11 @@
 //! What is said of a verdict, in words and as JSON.
-use super::super::account::{account, Account};
+use super::super::account::Account;
 use super::super::object::{object, refusal_object};
 use super::super::words::{refusal_words, words};
-use super::super::{samples, Refused};
-use super::table;
+use super::super::{ready, Refused, Stopped};
+use super::{account, table};
 use crate::assertion::Assertion;
+use crate::engine::Engine;
 use crate::names::Names;
 use crate::notation::{self, phrase};
 use crate::required::Required;
@@ -259,7 +260,7 @@ fn a_judged_record_as_json() {
         asked: true,
     };
     let expected = format!(
-        r#"{{"line":"level 1 tested yes","level":1,"name":"weak","meaning":"nothing broken, still waiting","tested":true,"implications":[{{"node":7,"part":"{0}","left":"{2}","reached":[0],"matched":[0],"asked":true}}],"once":true,"assertion":"{0}","signals":[{{"number":0,"name":"ack"}},{{"number":1,"name":"strobe"}}],"samples":1,"levels":[2,1],"closed":null,"decisive":{{"node":6,"part":"{1}","from":0,"level":1,"turned":false,"closed":null,"matched":null}},"required":{{"level":3,"tested":false,"asked":true,"reached":false}},"refused":null}}"#,
+        r#"{{"line":"level 1 tested yes","engine":"both","level":1,"name":"weak","meaning":"nothing broken, still waiting","tested":true,"implications":[{{"node":7,"part":"{0}","left":"{2}","reached":[0],"matched":[0],"asked":true}}],"once":true,"assertion":"{0}","signals":[{{"number":0,"name":"ack"}},{{"number":1,"name":"strobe"}}],"samples":1,"levels":[2,1],"closed":null,"decisive":{{"node":6,"part":"{1}","from":0,"level":1,"turned":false,"closed":null,"matched":null}},"required":{{"level":3,"tested":false,"asked":true,"reached":false}},"refused":null}}"#,
         whole(&ASKED),
         part(&ASKED, 6),
         part(&ASKED, 2)
@@ -284,11 +285,19 @@ fn a_closed_record_as_json() {
     assert!(untested.contains(free), "{untested}");
 }
 
+/// The refusal of a table or a record.
+fn refused(table: &[u8], record: &[u8]) -> Refused {
+    match ready(Engine::Both, table, record) {
+        Err(Stopped::Refused(refused)) => refused,
+        other => panic!("this is no refusal: {other:?}"),
+    }
+}
+
 #[test]
 fn a_refusal_in_words_and_as_json() {
     // strong(ack[*0]) is refused with 9 at node 3, before the record, which is too short.
     let hollow = table(&[[1, 0, 0], [16, 0, 0], [20, 1, 0], [32, 2, 0]]);
-    let refused = samples(&hollow, b"SVW").unwrap_err();
+    let refused = refused(&hollow, b"SVW");
     assert!(matches!(refused, Refused::Table(_)));
     let expected =
         "refused 9 at 3\n\nThe table is refused with number 9 at node 3: strong, weak or |-> \
@@ -296,8 +305,8 @@ fn a_refusal_in_words_and_as_json() {
                     kit show hollow.svt shows the table.\n";
     let said = refusal_words(refused, Path::new("hollow.svt"), &hollow);
     assert_eq!(said, expected);
-    let written = refusal_object(refused, Required::default()).to_string();
-    let expected = r#"{"line":"refused 9 at 3","level":null,"name":null,"meaning":null,"tested":null,"implications":[],"once":null,"assertion":null,"signals":[],"samples":null,"levels":[],"closed":null,"decisive":null,"required":{"level":null,"tested":false,"asked":false,"reached":false},"refused":{"file":"table","number":9,"node":3,"reason":"strong, weak or |-> over a sequence that matches no k letters ⊤, k at least 1"}}"#;
+    let written = refusal_object(refused, Engine::Fast, Required::default()).to_string();
+    let expected = r#"{"line":"refused 9 at 3","engine":"fast","level":null,"name":null,"meaning":null,"tested":null,"implications":[],"once":null,"assertion":null,"signals":[],"samples":null,"levels":[],"closed":null,"decisive":null,"required":{"level":null,"tested":false,"asked":false,"reached":false},"refused":{"file":"table","number":9,"node":3,"reason":"strong, weak or |-> over a sequence that matches no k letters ⊤, k at least 1"}}"#;
     assert_eq!(written, expected);
 }
 
@@ -309,8 +318,9 @@ fn both_objects_have_the_same_keys() {
         }
         _ => vec![],
     };
-    let refused = samples(b"", b"").unwrap_err();
+    let refused = refused(b"", b"");
     let judged = keys(object(&told(&ASKED, &[3]), Required::default()));
-    assert_eq!(judged, keys(refusal_object(refused, Required::default())));
-    assert_eq!(judged.len(), 15);
+    let refused = refusal_object(refused, Engine::Both, Required::default());
+    assert_eq!(judged, keys(refused));
+    assert_eq!(judged.len(), 16);
 }

@@ -118,23 +118,22 @@ impl Bench {
     /// shown is checked, and any other is judged.
     fn library(&self, (kind, words): Form, bytes: &[u8]) -> Option<Result<Judgement, Refusal>> {
         let (table, record) = (example_bytes("flush.svt"), example_bytes("flush.svw"));
-        let mut judge = Judge::new();
         let good = xistomar::samples(&record).unwrap();
         match kind {
             Kind::Table if words[0] == "show" => {
-                let judged = judge.judge(&table, &good);
+                let judged = judged(&table, &good);
                 Some(xistomar::check(bytes).and(judged))
             }
-            Kind::Table => Some(judge.judge(bytes, &good)),
+            Kind::Table => Some(judged(bytes, &good)),
             Kind::Record => {
                 let samples = xistomar::samples(bytes);
-                Some(samples.and_then(|samples| judge.judge(&table, &samples)))
+                Some(samples.and_then(|samples| judged(&table, &samples)))
             }
             Kind::Text | Kind::Waveform => None,
         }
     }
 
-    /// The first line of `judge`, and of `show` for what is refused, is the program's, and of
+    /// The first line of `judge`, and of `show` for what is refused, is the answer's, and of
     /// `batch --list` the record's, with more where a `|->` was never asked.
     fn first_line(&self, (kind, words): Form, ran: &Ran, line: &str, case: &str) {
         let first = ran.line();
@@ -155,6 +154,14 @@ impl Bench {
             }
             _ => {}
         }
+    }
+}
+
+/// The answer of the fast engine or, where that refuses with 13, of the plain one.
+fn judged(table: &[u8], samples: &[u64]) -> Result<Judgement, Refusal> {
+    match Judge::new().judge(table, samples) {
+        Err(refusal) if refusal.number() == 13 => xistomar::plain_judge(table, samples),
+        answer => answer,
     }
 }
 

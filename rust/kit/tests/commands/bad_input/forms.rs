@@ -30,7 +30,7 @@ pub const KINDS: [Kind; 4] = [Kind::Table, Kind::Text, Kind::Waveform, Kind::Rec
 pub type Form = (Kind, &'static [&'static str]);
 
 /// Every command, with each file that it takes bad in its turn.
-pub const FORMS: [Form; 22] = [
+pub const FORMS: [Form; 24] = [
     (Kind::Text, &["table", "IN", "-o", "OUT"]),
     (Kind::Table, &["show", "IN"]),
     (Kind::Record, &["show", "IN"]),
@@ -42,6 +42,7 @@ pub const FORMS: [Form; 22] = [
     (Kind::Table, &["judge", "IN", "RECORD"]),
     (Kind::Text, &["judge", "IN", "RECORD"]),
     (Kind::Record, &["judge", "TABLE", "IN"]),
+    (Kind::Table, &["judge", "--engine", "plain", "IN", "RECORD"]),
     (Kind::Table, &["judge", "--json", "IN", "RECORD"]),
     (Kind::Record, &["judge", "--json", "TABLE", "IN"]),
     (Kind::Text, &["judge", "TABLE", "RECORD", "--names", "IN"]),
@@ -56,6 +57,10 @@ pub const FORMS: [Form; 22] = [
     (Kind::Text, &["batch", "IN", "RECORD"]),
     (Kind::Record, &["batch", "TABLE", "IN", "--list"]),
     (Kind::Record, &["batch", "--list", "TABLE", "IN", "RECORD"]),
+    (
+        Kind::Record,
+        &["batch", "--list", "--engine=plain", "TABLE", "IN"],
+    ),
 ];
 
 const EVERY: [&str; 8] = [
