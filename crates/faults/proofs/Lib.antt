@@ -1,3 +1,2 @@
--- Laws that the proofs of this crate and of `table` cite.
+-- Laws that the proofs of this crate cite.
 pub mod Counting
-pub mod Keeping

@@ -1,7 +1,10 @@
 // Refusal 6: the lowest node that is not well formed.
 use nodes::node_at;
+use nodes::operators::COUNT;
 use nodes::operators::NONE;
+use nodes::operators::RANGE;
 use nodes::operators::Row;
+use nodes::operators::ZERO;
 use nodes::operators::row_of;
 use nodes::sort_at;
 use refusal::version_of;
@@ -10,7 +13,7 @@ ghost use mathlib.Core.Path.{_≡_};
 ghost use Prim.Native.Nat.{_+_, _*_, _≤_};
 ghost use lib.ListN.{length};
 ghost use Rattle.refusal.specs.Computed.{first};
-ghost use Rattle.faults.specs.Computed.{operandFits, isKnownIn, nodeFits, unfit};
+ghost use Rattle.faults.specs.Computed.{operandFits, fourthFits, isKnownIn, nodeFits, unfit};
 
 // Whether v serves as an operand byte of node k: a plain byte below the limit, or the index of a lower node of the sort.
 fn operand(b: &[u8], k: usize, sort: u8, limit: u8, v: u8) -> bool
@@ -22,6 +25,14 @@ fn operand(b: &[u8], k: usize, sort: u8, limit: u8, v: u8) -> bool
     }
     let i = wide(v);
     if i < k { sort_at(b, i) == sort } else { false }
+}
+
+// Whether v serves as a fourth byte of that kind.
+fn fourth_fits(kind: u8, v: u8) -> bool
+    ensures { λ r. ⌜ r ≡ fourthFits kind v ⌝ }
+{
+    ((kind != ZERO) | (v == 0))
+        & (((kind != RANGE) | (v % 16 <= v / 16)) & ((kind != COUNT) | (v <= 15)))
 }
 
 // Whether the operator of the row is known in the version.
@@ -44,7 +55,7 @@ fn node_fits(b: &[u8], version: usize, k: usize) -> bool
     if !known_in(r, version) {
         return false;
     }
-    if n.fourth != 0 {
+    if !fourth_fits(r.fourth, n.fourth) {
         return false;
     }
     if operand(b, k, r.x, r.limit, n.x) {

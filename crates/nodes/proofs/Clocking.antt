@@ -8,8 +8,8 @@ use Prim.Native.Nat.{ℕ, zero, suc, _+_, _<_, _≤_}
 use Rattle.refusal.specs.Heading.{count}
 use Rattle.nodes.specs.declared.Node.{Node}
 use Rattle.nodes.specs.declared.Node.the-variants.{Boolean, Sequence, Property}
-use Rattle.nodes.specs.declared.SequenceOp.the-variants.{Letter, Then, Fused, Either, Empty, Repeat, Clocked}
-use Rattle.nodes.specs.declared.PropertyOp.the-variants.{Strong, Weak, Negated, AnyOf, BothOf, Implies, Next, Until, Ticked}
+use Rattle.nodes.specs.declared.SequenceOp.the-variants.{Letter, Then, Fused, Either, Empty, Repeat, Clocked, Derived}
+use Rattle.nodes.specs.declared.PropertyOp.the-variants.{Strong, Weak, Negated, AnyOf, BothOf, Implies, Next, Until, Ticked, Defined}
 use Rattle.nodes.specs.Operators.{boolean, sequence}
 use Rattle.nodes.specs.Nodes.{sortAt, nodeAt, root}
 use Rattle.nodes.specs.NodeClock.{Ref, freeR, onR, Part, handed, ClockOf, c-root, c-part}
@@ -77,6 +77,7 @@ module _ (s : List ℕ) (ok : Built s) where
   boolean-below p h (Sequence (Empty x)) e ρ k = k
   boolean-below p h (Sequence (Repeat x)) e ρ k = k
   boolean-below p h (Sequence (Clocked c x)) e ρ k = let (g, j) = down s p (ok .fit p h) e in let l = g .0 in (omega arith, g .1)
+  boolean-below p h (Sequence (Derived o)) e ρ k = k
   boolean-below p h (Property (Strong x)) e ρ k = k
   boolean-below p h (Property (Weak x)) e ρ k = k
   boolean-below p h (Property (Negated x)) e ρ k = k
@@ -86,6 +87,7 @@ module _ (s : List ℕ) (ok : Built s) where
   boolean-below p h (Property (Next x)) e ρ k = k
   boolean-below p h (Property (Until x y)) e ρ k = k
   boolean-below p h (Property (Ticked c x)) e ρ k = let (g, j) = down s p (ok .fit p h) e in let l = g .0 in (omega arith, g .1)
+  boolean-below p h (Property (Defined o)) e ρ k = k
 
   pub clock-boolean : {k : ℕ} {ρ : Ref} → ClockOf s k ρ → OnBoolean s ρ
   clock-boolean c-root = tt

@@ -5,71 +5,114 @@ use borrow.Author.Tests.{eqb-true}
 use mathlib.Core.Path.{_≡_, refl, _∙_, sym, ap}
 use mathlib.Core.Bool.{Bool, true, false, cond}
 use mathlib.Core.List.{List, map}
-use Prim.Native.Nat.{ℕ}
-use lib.Dec.{eqb}
+use Prim.Native.Nat.{ℕ, _/_, _%_}
+use lib.Dec.{T, eqb}
 use Rattle.nodes.specs.declared.operators.Row.{Row}
 use Rattle.nodes.specs.declared.Raw.{Raw}
 use Rattle.nodes.specs.declared.Node.{Node}
 use Rattle.nodes.specs.declared.Node.the-variants.{Boolean, Sequence, Property}
 use Rattle.nodes.specs.declared.BooleanOp.the-variants.{Constant, Signal, Not, And, Or, Risen, Fallen}
-use Rattle.nodes.specs.declared.SequenceOp.the-variants.{Letter, Then, Fused, Either, Empty, Repeat, Clocked}
-use Rattle.nodes.specs.declared.PropertyOp.the-variants.{Strong, Weak, Negated, AnyOf, BothOf, Implies, Next, Until, Ticked}
-use Rattle.nodes.specs.Operators.{none, operators, lookup, rowOf, nodeOf, bytes, bytesOf, booleanBytes, sequenceBytes, propertyBytes, Written, Decodes}
+use Rattle.nodes.specs.declared.SequenceOp.the-variants.{Letter, Then, Fused, Either, Empty, Repeat, Clocked, Derived}
+use Rattle.nodes.specs.declared.PropertyOp.the-variants.{Strong, Weak, Negated, AnyOf, BothOf, Implies, Next, Until, Ticked, Defined}
+use Rattle.nodes.specs.Operators.{none, operators, zeroByte, rangeByte, lookup, rowOf, nodeOf, fourBytes, ranged, bytesOf, booleanBytes, derivedSequenceBytes, derivedPropertyBytes, sequenceBytes, propertyBytes, Written, Decodes}
 use Rattle.nodes.specs.Nodes.{rawAt, sortAt, nodeAt, WellFormed}
 use Rattle.nodes.proofs.Lookup.{of-lookup, same-line, coded-line}
 
--- the bytes of a node: its operator, x, and y where its row r uses it
-abbrev meant : ℕ → ℕ → ℕ → Row → Raw
-meant x y op r = bytes op x (cond (eqb (r .y) none) 0 y)
+-- the fourth byte that a node of the kind keeps
+kept : ℕ → ℕ → ℕ
+kept kind q = cond (eqb kind zeroByte) 0 (cond (eqb kind rangeByte) (ranged (q % 16) (q / 16)) q)
+
+-- the bytes of a node: its operator, x, y where its row r uses it, and the fourth byte where it has counts
+abbrev meant : ℕ → ℕ → ℕ → ℕ → Row → Raw
+meant x y q op r = fourBytes op x (cond (eqb (r .y) none) 0 y) (kept (r .fourth) q)
 
 -- so are those of a line's node: antt computes the two for all lines at once
-all-meant : (x y : ℕ) → map (λ e. bytesOf (e .make x y)) operators ≡ map (λ e. meant x y (e .code) (e .row)) operators
-unfolding operators bytesOf booleanBytes sequenceBytes propertyBytes
-all-meant x y = refl
+all-meant : (x y q : ℕ) → map (λ e. bytesOf (e .make x y q)) operators ≡ map (λ e. meant x y q (e .code) (e .row)) operators
+unfolding operators kept bytesOf booleanBytes derivedSequenceBytes derivedPropertyBytes sequenceBytes propertyBytes
+all-meant x y q = refl
+
+-- a byte that is 0 where its sort, or its kind, is 0
+used : (kind v w : ℕ) → (kind ≡ 0 → v ≡ 0) → w ≡ v → cond (eqb kind 0) 0 w ≡ v
+used kind v w u o = at (eqb kind 0) refl
+  where
+    at : (b : Bool) → eqb kind 0 ≡ b → cond b 0 w ≡ v
+    at true p = sym (u (eqb-true kind 0 p))
+    at false p = o
+
+keeps : (kind q : ℕ) → (kind ≡ zeroByte → q ≡ 0) → kept kind q ≡ q
+unfolding kept
+keeps kind q z = used kind q _ z (both (eqb kind rangeByte))
+  where
+    both : (b : Bool) → cond b (ranged (q % 16) (q / 16)) q ≡ q
+    both true = omega arith
+    both false = refl
 
 pub coded : (n : Raw) → Written n → bytesOf (nodeOf n) ≡ n
 unfolding nodeOf
 coded n w =
     let d = Boolean (Constant 0) in
-    of-lookup bytesOf (λ e. e .make (n .x) (n .y)) d operators (n .op)
-    ∙ same-line (λ e. bytesOf (e .make (n .x) (n .y))) (λ e. meant (n .x) (n .y) (e .code) (e .row)) (bytesOf d) (bytesOf d) (all-meant (n .x) (n .y)) (n .op) (w .known)
-    ∙ coded-line (meant (n .x) (n .y)) (bytesOf d) (n .op) (w .known)
-    ∙ (λ i. record { op = n .op; x = n .x; y = used (eqb (rowOf (n .op) .y) none) refl i; fourth = sym (w .fourth) i })
-  where
-    used : (b : Bool) → eqb (rowOf (n .op) .y) none ≡ b → cond b 0 (n .y) ≡ n .y
-    used true p = sym (w .unused (eqb-true (rowOf (n .op) .y) none p))
-    used false p = refl
+    let r = rowOf (n .op) in
+    of-lookup bytesOf (λ e. e .make (n .x) (n .y) (n .fourth)) d operators (n .op)
+    ∙ same-line (λ e. bytesOf (e .make (n .x) (n .y) (n .fourth))) (λ e. meant (n .x) (n .y) (n .fourth) (e .code) (e .row)) (bytesOf d) (bytesOf d)
+    (all-meant (n .x) (n .y) (n .fourth)) (n .op) (w .known)
+    ∙ coded-line (meant (n .x) (n .y) (n .fourth)) (bytesOf d) (n .op) (w .known)
+    ∙ (λ i.
+    fourBytes (n .op) (n .x) (used (r .y) (n .y) (n .y) (w .unused) refl i) (keeps (r .fourth) (n .fourth) (w .fourth .zero) i))
 
 -- what the table of operators makes of the bytes is decoded from them
 pub decodes : (n : Raw) (r : Node) → r ≡ nodeOf n → Decodes n r
 decodes n r e = record { made = e; same = λ w. ap bytesOf e ∙ coded n w }
 
--- and the bytes of a node are decoded to the node
-pub decoded : (v : Node) → nodeOf (bytesOf v) ≡ v
+-- a node of a base operator
+abbrev pub isBase : Node → Bool
+isBase (Boolean o) = true
+isBase (Sequence (Letter x)) = true
+isBase (Sequence (Then x y)) = true
+isBase (Sequence (Fused x y)) = true
+isBase (Sequence (Either x y)) = true
+isBase (Sequence (Empty x)) = true
+isBase (Sequence (Repeat x)) = true
+isBase (Sequence (Clocked x y)) = true
+isBase (Sequence (Derived o)) = false
+isBase (Property (Strong x)) = true
+isBase (Property (Weak x)) = true
+isBase (Property (Negated x)) = true
+isBase (Property (AnyOf x y)) = true
+isBase (Property (BothOf x y)) = true
+isBase (Property (Implies x y)) = true
+isBase (Property (Next x)) = true
+isBase (Property (Until x y)) = true
+isBase (Property (Ticked x y)) = true
+isBase (Property (Defined o)) = false
+
+-- and its bytes are decoded to the node
+pub decoded : (v : Node) → T (isBase v) → nodeOf (bytesOf v) ≡ v
 unfolding nodeOf lookup operators bytesOf booleanBytes sequenceBytes propertyBytes
-decoded (Boolean (Constant x)) = refl
-decoded (Boolean (Signal x)) = refl
-decoded (Boolean (Not x)) = refl
-decoded (Boolean (And x y)) = refl
-decoded (Boolean (Or x y)) = refl
-decoded (Boolean (Risen x)) = refl
-decoded (Boolean (Fallen x)) = refl
-decoded (Sequence (Letter x)) = refl
-decoded (Sequence (Then x y)) = refl
-decoded (Sequence (Fused x y)) = refl
-decoded (Sequence (Either x y)) = refl
-decoded (Sequence (Empty x)) = refl
-decoded (Sequence (Repeat x)) = refl
-decoded (Sequence (Clocked x y)) = refl
-decoded (Property (Strong x)) = refl
-decoded (Property (Weak x)) = refl
-decoded (Property (Negated x)) = refl
-decoded (Property (AnyOf x y)) = refl
-decoded (Property (BothOf x y)) = refl
-decoded (Property (Implies x y)) = refl
-decoded (Property (Next x)) = refl
-decoded (Property (Until x y)) = refl
-decoded (Property (Ticked x y)) = refl
+decoded (Boolean (Constant x)) b = refl
+decoded (Boolean (Signal x)) b = refl
+decoded (Boolean (Not x)) b = refl
+decoded (Boolean (And x y)) b = refl
+decoded (Boolean (Or x y)) b = refl
+decoded (Boolean (Risen x)) b = refl
+decoded (Boolean (Fallen x)) b = refl
+decoded (Sequence (Letter x)) b = refl
+decoded (Sequence (Then x y)) b = refl
+decoded (Sequence (Fused x y)) b = refl
+decoded (Sequence (Either x y)) b = refl
+decoded (Sequence (Empty x)) b = refl
+decoded (Sequence (Repeat x)) b = refl
+decoded (Sequence (Clocked x y)) b = refl
+decoded (Sequence (Derived o)) b = absurd b
+decoded (Property (Strong x)) b = refl
+decoded (Property (Weak x)) b = refl
+decoded (Property (Negated x)) b = refl
+decoded (Property (AnyOf x y)) b = refl
+decoded (Property (BothOf x y)) b = refl
+decoded (Property (Implies x y)) b = refl
+decoded (Property (Next x)) b = refl
+decoded (Property (Until x y)) b = refl
+decoded (Property (Ticked x y)) b = refl
+decoded (Property (Defined o)) b = absurd b
 
 -- ---- of a well-formed node of a table
 

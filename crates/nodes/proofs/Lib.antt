@@ -4,5 +4,7 @@ pub mod Coded
 pub mod Shapes
 pub mod Placing
 pub mod Built
+pub mod Fits
 pub mod Clocking
 pub mod Versions
+pub mod Based

@@ -1,6 +1,6 @@
 -- Looking a line up in the table of operators. Assumes nothing.
 use borrow.Author.Tests.{ne-eqb, eqb-true}
-use mathlib.Core.Path.{_≡_, refl, sym, ap}
+use mathlib.Core.Path.{_≡_, refl, _∙_, sym, ap}
 use mathlib.Core.Bool.{Bool, true, false, cond, _&&_}
 use mathlib.Core.List.{List, [], _∷_, map}
 use Prim.Native.Nat.{ℕ}
@@ -115,3 +115,34 @@ coded-in {A} f d (e ∷ es) op k = go (coded-in f d es op) (eqb op (e .code)) re
 pub coded-line : {A : Type 0} (f : ℕ → Row → A) (d : A) (op : ℕ) → ¬ (rowOf op .own ≡ none) → lookup (λ e. f (e .code) (e .row)) d operators op ≡ f op (rowOf op)
 unfolding rowOf
 coded-line f d op k = coded-in f d operators op k
+
+-- ---- the last arm of a match that has an arm for some lines
+
+-- the lines that pass a test
+abbrev pub only : (Entry → Bool) → List Entry → List Entry
+only p [] = []
+only p (e ∷ es) = cond (p e) (e ∷ only p es) (only p es)
+
+-- one value, whichever way it is come by
+either-way : {A : Type 0} {d r : A} (t : Bool) → r ≡ d → cond t d r ≡ d
+either-way true q = refl
+either-way false q = q
+
+module _ {A : Type 0} (p : Entry → Bool) (f : Entry → A) (d : A) where
+  abbrev masked : Entry → A
+  masked e = cond (p e) (f e) d
+
+  -- past the lines that pass
+  past-only : (acc : Type 0) (es : List Entry) (op : ℕ) → NotAmong acc (only p es) op → (lookup masked d es op ≡ d) × acc
+  unfolding lookup
+  past-only acc [] op h = (refl, h)
+  past-only acc (e ∷ es) op h = go (λ acc h. past-only acc es op h) (p e) h
+    where
+      go : ((acc : Type 0) → NotAmong acc (only p es) op → (lookup masked d es op ≡ d) × acc) → (b : Bool) → NotAmong acc (cond b (e ∷ only p es) (only p es)) op
+          → (cond (eqb op (e .code)) (cond b (f e) d) (lookup masked d es op) ≡ d) × acc
+      go later true h = let q = later (acc × (op ≡ e .code → ⊥)) h in (simp (ne-eqb op (e .code) (q .1 .1)) (q .0), q .1 .0)
+      go later false h = let q = later acc h in (either-way (eqb op (e .code)) (q .0), q .1)
+
+  -- a known operator that is past them all, where f is d of all other lines
+  pub last-arm : map f operators ≡ map masked operators → (d′ : A) (op : ℕ) → ¬ (rowOf op .own ≡ none) → NotAmong (Unit {0}) (only p operators) op → lookup f d′ operators op ≡ d
+  last-arm q d′ op k h = same-line f masked d′ d q op k ∙ past-only (Unit {0}) operators op h .0

@@ -15,6 +15,10 @@ use Rattle.nodes.specs.Nodes.{rawAt, rowAt, sortAt, hitsOf, placesOf, us
 use Rattle.nodes.specs.NodeClock.{Part, at-x, at-y}
 use Rattle.nodes.proofs.Lookup.{row-passes}
 
+-- 1 where the test passes
+abbrev pub ind : Bool → ℕ
+ind b = cond b 1 0
+
 -- ---- a place that is hit holds the node
 
 hit : (sort v k : ℕ) → 0 < hitsOf sort v k → (¬ (sort ≡ none)) × (v ≡ k)
@@ -25,6 +29,10 @@ hit sort v k h = go (eqb sort none) refl (eqb v k) refl h
     go true p b q h = absurd (omega arith)
     go false p true q h = (eqb-false sort none p, eqb-true v k q)
     go false p false q h = absurd (omega arith)
+
+pub no-hit : (sort v k : ℕ) → (¬ (sort ≡ none) → ¬ (v ≡ k)) → hitsOf sort v k ≡ 0
+no-hit sort v k h =
+    ⊎-elim (λ (e : hitsOf sort v k ≡ 0). e) (λ (l : 0 < hitsOf sort v k). let (z, e) = hit sort v k l in absurd (h z e)) (eq-zero-or-pos (hitsOf sort v k))
 
 hits-one : (sort v : ℕ) → ¬ (sort ≡ none) → hitsOf sort v v ≡ 1
 unfolding hitsOf
@@ -64,6 +72,17 @@ module _ (s : List ℕ) (x : ℕ) where
   two-places (suc n) j k g h =
       ⊎-elim (λ (e : k ≡ n). let p = places-in n j (omega arith) in rw e (omega arith)) (λ (l : k < n). let p = two-places n j k g l in omega arith)
       (eq-or-lt-of-le (le-of-suc-le-suc h))
+
+  -- well-formed nodes up to x have it in no place
+  pub unused : (n : ℕ) → n ≤ suc x → ((k : ℕ) → k < n → WellFormed s k) → usesOf s x n ≡ 0
+  unfolding usesOf
+  unused zero h fit = refl
+  unused (suc n) h fit =
+      let w = fit n (omega arith) in
+      let a = no-hit (rowAt s n .x) (rawAt s n .x) x (λ z e. let l = w .x .below z in omega arith) in
+      let b = no-hit (rowAt s n .y) (rawAt s n .y) x (λ z e. let l = w .y .below z in omega arith) in
+      let c = unused n (omega arith) (λ k l. fit k (omega arith)) in
+      omega arith
 
   -- where there is a place there is a node that has it
   some-place : (n : ℕ) → 0 < usesOf s x n → (k : ℕ) × (k < n) × (0 < placesOf s x k)

@@ -10,9 +10,11 @@ use Rattle.nodes.specs.declared.Raw.{Raw}
 use Rattle.nodes.specs.declared.Node.{Node}
 use Rattle.nodes.specs.declared.Node.the-variants.{Boolean, Sequence, Property}
 use Rattle.nodes.specs.declared.BooleanOp.the-variants.{Constant, Signal, Not, And, Or, Risen, Fallen}
-use Rattle.nodes.specs.declared.SequenceOp.the-variants.{Letter, Then, Fused, Either, Empty, Repeat, Clocked}
-use Rattle.nodes.specs.declared.PropertyOp.the-variants.{Strong, Weak, Negated, AnyOf, BothOf, Implies, Next, Until, Ticked}
-use Rattle.nodes.specs.Operators.{none, boolean, sequence, property, operators, unknown, lookup, rowOf, nodeOf, bytesOf, booleanBytes, sequenceBytes, propertyBytes}
+use Rattle.nodes.specs.declared.SequenceOp.the-variants.{Letter, Then, Fused, Either, Empty, Repeat, Clocked, Derived}
+use Rattle.nodes.specs.declared.PropertyOp.the-variants.{Strong, Weak, Negated, AnyOf, BothOf, Implies, Next, Until, Ticked, Defined}
+use Rattle.nodes.specs.declared.DerivedSequence.the-variants.{Repeated, Delayed, Goto, Nonconsecutive}
+use Rattle.nodes.specs.declared.DerivedProperty.the-variants.{ImpliesNext, Followed, FollowedNext, Always, Eventually, StrongUntil, StrongNext}
+use Rattle.nodes.specs.Operators.{none, boolean, sequence, property, operators, unknown, lookup, rowOf, nodeOf, bytesOf, booleanBytes, derivedSequenceBytes, derivedPropertyBytes, sequenceBytes, propertyBytes}
 use Rattle.nodes.specs.Nodes.{rawAt, rowAt, sortAt, nodeAt, Operand, WellFormed}
 use Rattle.nodes.specs.NodeClock.{Part, at-x, at-y}
 use Rattle.nodes.proofs.Lookup.{of-lookup, same-line}
@@ -40,6 +42,10 @@ module _ (Q : ℕ → ℕ → Type 0) where
   Formed (Sequence (Empty x)) = Q sequence x
   Formed (Sequence (Repeat x)) = Q sequence x
   Formed (Sequence (Clocked c x)) = Q boolean c × Q sequence x
+  Formed (Sequence (Derived (Repeated x m n))) = Q sequence x
+  Formed (Sequence (Derived (Delayed x y m n))) = Q sequence x × Q sequence y
+  Formed (Sequence (Derived (Goto x m))) = Q boolean x
+  Formed (Sequence (Derived (Nonconsecutive x m))) = Q boolean x
   Formed (Property (Strong x)) = Q sequence x
   Formed (Property (Weak x)) = Q sequence x
   Formed (Property (Negated x)) = Q property x
@@ -49,10 +55,17 @@ module _ (Q : ℕ → ℕ → Type 0) where
   Formed (Property (Next x)) = Q property x
   Formed (Property (Until x y)) = Q property x × Q property y
   Formed (Property (Ticked c x)) = Q boolean c × Q property x
+  Formed (Property (Defined (ImpliesNext x y))) = Q sequence x × Q property y
+  Formed (Property (Defined (Followed x y))) = Q sequence x × Q property y
+  Formed (Property (Defined (FollowedNext x y))) = Q sequence x × Q property y
+  Formed (Property (Defined (Always x))) = Q property x
+  Formed (Property (Defined (Eventually x))) = Q property x
+  Formed (Property (Defined (StrongUntil x y))) = Q property x × Q property y
+  Formed (Property (Defined (StrongNext x))) = Q property x
 
   formed : (v : Node) → (T (ltb 0 (rowOf (bytesOf v .op) .x)) → Q (rowOf (bytesOf v .op) .x) (bytesOf v .x))
       → (T (ltb 0 (rowOf (bytesOf v .op) .y)) → Q (rowOf (bytesOf v .op) .y) (bytesOf v .y)) → Formed v
-  unfolding rowOf lookup operators bytesOf booleanBytes sequenceBytes propertyBytes
+  unfolding rowOf lookup operators bytesOf booleanBytes derivedSequenceBytes derivedPropertyBytes sequenceBytes propertyBytes
   formed (Boolean (Constant v)) f g = tt
   formed (Boolean (Signal x)) f g = tt
   formed (Boolean (Not x)) f g = f tt
@@ -67,6 +80,10 @@ module _ (Q : ℕ → ℕ → Type 0) where
   formed (Sequence (Empty x)) f g = f tt
   formed (Sequence (Repeat x)) f g = f tt
   formed (Sequence (Clocked c x)) f g = (f tt, g tt)
+  formed (Sequence (Derived (Repeated x m n))) f g = f tt
+  formed (Sequence (Derived (Delayed x y m n))) f g = (f tt, g tt)
+  formed (Sequence (Derived (Goto x m))) f g = f tt
+  formed (Sequence (Derived (Nonconsecutive x m))) f g = f tt
   formed (Property (Strong x)) f g = f tt
   formed (Property (Weak x)) f g = f tt
   formed (Property (Negated x)) f g = f tt
@@ -76,11 +93,18 @@ module _ (Q : ℕ → ℕ → Type 0) where
   formed (Property (Next x)) f g = f tt
   formed (Property (Until x y)) f g = (f tt, g tt)
   formed (Property (Ticked c x)) f g = (f tt, g tt)
+  formed (Property (Defined (ImpliesNext x y))) f g = (f tt, g tt)
+  formed (Property (Defined (Followed x y))) f g = (f tt, g tt)
+  formed (Property (Defined (FollowedNext x y))) f g = (f tt, g tt)
+  formed (Property (Defined (Always x))) f g = f tt
+  formed (Property (Defined (Eventually x))) f g = f tt
+  formed (Property (Defined (StrongUntil x y))) f g = (f tt, g tt)
+  formed (Property (Defined (StrongNext x))) f g = f tt
 
 -- a line's own sort is that of its node: antt computes the two for all lines at once
-own-sorts : (x y : ℕ) → map (λ e. e .row .own) operators ≡ map (λ e. sortOf (e .make x y)) operators
+own-sorts : (x y q : ℕ) → map (λ e. e .row .own) operators ≡ map (λ e. sortOf (e .make x y q)) operators
 unfolding operators
-own-sorts x y = refl
+own-sorts x y q = refl
 
 -- x is a node below k of the sort and, where it is a sequence or a property, a part of k
 abbrev pub Suits : List ℕ → ℕ → ℕ → ℕ → Type 0
@@ -92,8 +116,8 @@ module _ (s : List ℕ) (k : ℕ) (w : WellFormed s k) where
   sort-is =
       let n = rawAt s k in
       of-lookup (λ (r : Row). r .own) (λ e. e .row) unknown operators (n .op)
-      ∙ same-line (λ e. e .row .own) (λ e. sortOf (e .make (n .x) (n .y))) none boolean (own-sorts (n .x) (n .y)) (n .op) (w .known)
-      ∙ sym (of-lookup sortOf (λ e. e .make (n .x) (n .y)) (Boolean (Constant 0)) operators (n .op))
+      ∙ same-line (λ e. e .row .own) (λ e. sortOf (e .make (n .x) (n .y) (n .fourth))) none boolean (own-sorts (n .x) (n .y) (n .fourth)) (n .op) (w .known)
+      ∙ sym (of-lookup sortOf (λ e. e .make (n .x) (n .y) (n .fourth)) (Boolean (Constant 0)) operators (n .op))
 
   operands : Formed (Suits s k) (nodeAt s k)
   operands =

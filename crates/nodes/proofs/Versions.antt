@@ -1,4 +1,5 @@
--- Which operators a version knows, by their numbers: version 1 those of document 01, version 2 the rising and falling signals of document 02 besides.
+-- Which operators a version knows, by their numbers: version 1 those of document 01, version 2 the rising and falling signals of document 02 besides,
+-- version 3 its derived operators besides.
 -- Assumes nothing.
 use native.Mathlib.Omega.{arith}
 use mathlib.Core.Path.{_≡_}
@@ -16,16 +17,16 @@ use Rattle.nodes.proofs.Lookup.{line-of}
 abbrev pub KnownAt : ℕ → ℕ → Type 0
 KnownAt v op = (¬ (rowOf op .own ≡ none)) × KnownIn (rowOf op) v
 
--- the numbers of the page: booleans 0 to `top`, sequences 16 to 22, properties 32 to 40
-abbrev pub Page : ℕ → ℕ → Type 0
-Page top op = (op ≤ top) ⊎ (((16 ≤ op) × (op ≤ 22)) ⊎ ((32 ≤ op) × (op ≤ 40)))
+-- the numbers of the page: booleans 0 to b, sequences 16 to q, properties 32 to p
+abbrev pub Page : ℕ → ℕ → ℕ → ℕ → Type 0
+Page b q p op = (op ≤ b) ⊎ (((16 ≤ op) × (op ≤ q)) ⊎ ((32 ≤ op) × (op ≤ p)))
 
-isPage : ℕ → ℕ → Bool
-isPage top op = leb op top || ((leb 16 op && leb op 22) || (leb 32 op && leb op 40))
+isPage : ℕ → ℕ → ℕ → ℕ → Bool
+isPage b q p op = leb op b || ((leb 16 op && leb op q) || (leb 32 op && leb op p))
 
-page-tells : (top op : ℕ) → Tells (isPage top op) (Page top op)
+page-tells : (b q p op : ℕ) → Tells (isPage b q p op) (Page b q p op)
 unfolding isPage
-page-tells top op = is-or (is-le op top) (is-or (is-and (is-le 16 op) (is-le op 22)) (is-and (is-le 32 op) (is-le op 40)))
+page-tells b q p op = is-or (is-le op b) (is-or (is-and (is-le 16 op) (is-le op q)) (is-and (is-le 32 op) (is-le op p)))
 
 isKnownAt : ℕ → ℕ → Bool
 isKnownAt v op = not (eqb (rowOf op .own) none) && (leb (rowOf op .first) v && leb v (rowOf op .last))
@@ -35,34 +36,40 @@ unfolding isKnownAt
 known-tells v op = is-and (is-not (is-eq (rowOf op .own) none)) (is-and (is-le (rowOf op .first) v) (is-le v (rowOf op .last)))
 
 -- the two tests agree
-agree : ℕ → ℕ → ℕ → Bool
-agree v top op = (not (isKnownAt v op) || isPage top op) && (not (isPage top op) || isKnownAt v op)
+agree : ℕ → ℕ → ℕ → ℕ → ℕ → Bool
+agree v b q p op = (not (isKnownAt v op) || isPage b q p op) && (not (isPage b q p op) || isKnownAt v op)
 
 -- antt computes them for all numbers of the page, and no known operator is past those
-module _ (v top : ℕ) (low : top ≤ 40) (computed : T (every (agree v top) 0 41)) where
-  within : (op : ℕ) → op < 41 → (KnownAt v op → Page top op) × (Page top op → KnownAt v op)
+module _ (v b q p : ℕ) (low : (b ≤ 47) × (q ≤ 47) × (p ≤ 47)) (computed : T (every (agree v b q p) 0 48)) where
+  within : (op : ℕ) → op < 48 → (KnownAt v op → Page b q p op) × (Page b q p op → KnownAt v op)
   unfolding agree
   within op l =
-      is-every 0 41 (λ op u w. is-and (is-imp (known-tells v op) (page-tells top op)) (is-imp (page-tells top op) (known-tells v op))) .to computed op (omega arith)
+      is-every 0 48 (λ op u w. is-and (is-imp (known-tells v op) (page-tells b q p op)) (is-imp (page-tells b q p op) (known-tells v op))) .to computed op (omega arith)
       (omega arith)
 
-  known-low : (op : ℕ) → KnownAt v op → op < 41
+  known-low : (op : ℕ) → KnownAt v op → op < 48
   unfolding operators
   known-low op k =
-      let (e, r, o, t) = line-of (λ e. leb (e .code) 40) tt op (k .0) in
-      let l = is-le (e .code) 40 .to t in
+      let (e, r, o, t) = line-of (λ e. leb (e .code) 47) tt op (k .0) in
+      let l = is-le (e .code) 47 .to t in
       omega arith
 
-  page-low : (op : ℕ) → Page top op → op < 41
-  page-low op = ⊎-elim (λ (l : op ≤ top). omega arith) (⊎-elim (λ q. let l = q .1 in omega arith) (λ q. let l = q .1 in omega arith))
+  page-low : (op : ℕ) → Page b q p op → op < 48
+  page-low op =
+      let (lb, lq, lp) = low in
+      ⊎-elim (λ (l : op ≤ b). omega arith) (⊎-elim (λ h. let l = h .1 in omega arith) (λ h. let l = h .1 in omega arith))
 
-  knows : (op : ℕ) → KnownAt v op ↔ Page top op
+  knows : (op : ℕ) → KnownAt v op ↔ Page b q p op
   knows op = (λ k. within op (known-low op k) .0 k, λ p. within op (page-low op p) .1 p)
 
-pub version-one-operators : (op : ℕ) → KnownAt 1 op ↔ Page 4 op
+pub version-one-operators : (op : ℕ) → KnownAt 1 op ↔ Page 4 22 40 op
 unfolding every agree isKnownAt isPage rowOf lookup operators
-version-one-operators = knows 1 4 (omega arith) tt
+version-one-operators = knows 1 4 22 40 (omega arith, omega arith, omega arith) tt
 
-pub version-two-operators : (op : ℕ) → KnownAt 2 op ↔ Page 6 op
+pub version-two-operators : (op : ℕ) → KnownAt 2 op ↔ Page 6 22 40 op
 unfolding every agree isKnownAt isPage rowOf lookup operators
-version-two-operators = knows 2 6 (omega arith) tt
+version-two-operators = knows 2 6 22 40 (omega arith, omega arith, omega arith) tt
+
+pub version-three-operators : (op : ℕ) → KnownAt 3 op ↔ Page 6 26 47 op
+unfolding every agree isKnownAt isPage rowOf lookup operators
+version-three-operators = knows 3 6 26 47 (omega arith, omega arith, omega arith) tt

@@ -5,8 +5,8 @@ use mathlib.Core.List.{List}
 use Prim.Native.Nat.{ℕ, _≤_}
 use Rattle.nodes.specs.declared.Node.{Node}
 use Rattle.nodes.specs.declared.Node.the-variants.{Boolean, Sequence, Property}
-use Rattle.nodes.specs.declared.SequenceOp.the-variants.{Letter, Then, Fused, Either, Empty, Repeat, Clocked}
-use Rattle.nodes.specs.declared.PropertyOp.the-variants.{Strong, Weak, Negated, AnyOf, BothOf, Implies, Next, Until, Ticked}
+use Rattle.nodes.specs.declared.SequenceOp.the-variants.{Letter, Then, Fused, Either, Empty, Repeat, Clocked, Derived}
+use Rattle.nodes.specs.declared.PropertyOp.the-variants.{Strong, Weak, Negated, AnyOf, BothOf, Implies, Next, Until, Ticked, Defined}
 use Rattle.nodes.specs.Operators.{sequence}
 use Rattle.nodes.specs.Nodes.{rawAt, rowAt, nodeAt, root}
 
@@ -30,6 +30,7 @@ handed (Sequence (Either x y)) ρ = ρ
 handed (Sequence (Empty x)) ρ = ρ
 handed (Sequence (Repeat x)) ρ = ρ
 handed (Sequence (Clocked c x)) ρ = onR c
+handed (Sequence (Derived o)) ρ = ρ
 handed (Property (Strong x)) ρ = ρ
 handed (Property (Weak x)) ρ = ρ
 handed (Property (Negated x)) ρ = ρ
@@ -39,6 +40,7 @@ handed (Property (Implies x y)) ρ = ρ
 handed (Property (Next x)) ρ = ρ
 handed (Property (Until x y)) ρ = ρ
 handed (Property (Ticked c x)) ρ = onR c
+handed (Property (Defined o)) ρ = ρ
 
 -- a node's clock is the condition of the nearest clock node above it, if any: the root has none, and each part has what is handed down to it
 pub data ClockOf (s : List ℕ) : ℕ → Ref → Type 0 where

@@ -10,9 +10,9 @@ use Rattle.refusal.specs.Heading.{version, count}
 use Rattle.nodes.specs.declared.operators.Row.{Row}
 use Rattle.nodes.specs.declared.Raw.{Raw}
 use Rattle.nodes.specs.declared.Node.{Node}
-use Rattle.nodes.specs.Operators.{none, sequence, property, rowOf, nodeOf}
+use Rattle.nodes.specs.Operators.{none, sequence, property, rowOf, nodeOf, Fourth}
 
--- 4 bytes a node: operator, x, y, 0
+-- 4 bytes a node: operator, x, y and the fourth
 abbrev pub rawAt : List ℕ → ℕ → Raw
 rawAt s k =
     record { op = getD s (4 * k + 6) 0; x = getD s (4 * k + 6 + 1) 0; y = getD s (4 * k + 6 + 2) 0; fourth = getD s (4 * k + 6 + 3) 0 }
@@ -43,13 +43,13 @@ pub record Operand (s : List ℕ) (k sort limit v : ℕ) : Type 0 where
 abbrev pub KnownIn : Row → ℕ → Type 0
 KnownIn r v = (r .first ≤ v) × (v ≤ r .last)
 
--- an operator that is known, in the table's version; right x and y, 0 for the fourth byte; an unused operand byte is 0
+-- an operator that is known, in the table's version; right x and y, and a right fourth byte; an unused operand byte is 0
 pub record WellFormed (s : List ℕ) (k : ℕ) : Type 0 where
   pub known : ¬ (sortAt s k ≡ none)
   pub inVersion : KnownIn (rowAt s k) (version s)
   pub x : Operand s k (rowAt s k .x) (rowAt s k .limit) (rawAt s k .x)
   pub y : Operand s k (rowAt s k .y) 1 (rawAt s k .y)
-  pub fourth : rawAt s k .fourth ≡ 0
+  pub fourth : Fourth (rowAt s k .fourth) (rawAt s k .fourth)
 
 -- ---- operand places
 

@@ -1,7 +1,8 @@
--- The table of operators, document 01's and, for 5 and 6, document 02's: the number of each, the versions in which it is known, the sort of its node and
--- of each operand, the length of its block under a clock, and the node that it makes of x and y. Assumes nothing.
+-- The table of operators, document 01's and, for 5, 6, 23 to 26 and 41 to 47, document 02's: the number of each, the versions in which it is known, the
+-- sort of its node and of each operand, what its fourth byte may be, the length of its block under a clock, and the node that it makes of its bytes.
+-- Assumes nothing.
 use mathlib.Core.Path.{_≡_}
-use Prim.Native.Nat.{ℕ}
+use Prim.Native.Nat.{ℕ, _+_, _*_, _/_, _%_, _≤_}
 use mathlib.Core.Bool.{cond}
 use mathlib.Core.List.{List, [], _∷_}
 use lib.Dec.{eqb}
@@ -12,9 +13,13 @@ use Rattle.nodes.specs.declared.Node.the-variants.{Boolean, Sequence, Pr
 use Rattle.nodes.specs.declared.BooleanOp.{BooleanOp}
 use Rattle.nodes.specs.declared.BooleanOp.the-variants.{Constant, Signal, Not, And, Or, Risen, Fallen}
 use Rattle.nodes.specs.declared.SequenceOp.{SequenceOp}
-use Rattle.nodes.specs.declared.SequenceOp.the-variants.{Letter, Then, Fused, Either, Empty, Repeat, Clocked}
+use Rattle.nodes.specs.declared.SequenceOp.the-variants.{Letter, Then, Fused, Either, Empty, Repeat, Clocked, Derived}
 use Rattle.nodes.specs.declared.PropertyOp.{PropertyOp}
-use Rattle.nodes.specs.declared.PropertyOp.the-variants.{Strong, Weak, Negated, AnyOf, BothOf, Implies, Next, Until, Ticked}
+use Rattle.nodes.specs.declared.PropertyOp.the-variants.{Strong, Weak, Negated, AnyOf, BothOf, Implies, Next, Until, Ticked, Defined}
+use Rattle.nodes.specs.declared.DerivedSequence.{DerivedSequence}
+use Rattle.nodes.specs.declared.DerivedSequence.the-variants.{Repeated, Delayed, Goto, Nonconsecutive}
+use Rattle.nodes.specs.declared.DerivedProperty.{DerivedProperty}
+use Rattle.nodes.specs.declared.DerivedProperty.the-variants.{ImpliesNext, Followed, FollowedNext, Always, Eventually, StrongUntil, StrongNext}
 
 -- the sorts; 0 for none
 abbrev pub none : ℕ
@@ -29,25 +34,52 @@ sequence = 2
 abbrev pub property : ℕ
 property = 3
 
--- the versions of a table are 1 to this
-abbrev pub newest : ℕ
-newest = 2
+-- what the fourth byte may be: 0; m + 16n with m at most n; m, at most 15
+abbrev pub zeroByte : ℕ
+zeroByte = 0
 
--- a line of the document's table: the operator's code, what it fixes, and the node that it makes of x and y
+abbrev pub rangeByte : ℕ
+rangeByte = 1
+
+abbrev pub countByte : ℕ
+countByte = 2
+
+-- the versions of a table are 1 to `newest`; those with base operators alone, which the engines read as they stand, are 1 to `base`
+abbrev pub newest : ℕ
+newest = 3
+
+abbrev pub base : ℕ
+base = 2
+
+-- a line of the document's table: the operator's code, what it fixes, and the node that it makes of x, y and the fourth byte
 pub record Entry : Type 0 where
   pub code : ℕ
   pub row : Row
-  pub make : ℕ → ℕ → Node
+  pub make : ℕ → ℕ → ℕ → Node
 
 -- a line whose x is a plain number below a limit: code, first and last version, own sort, limit, node. y is not used
 abbrev pub plain : ℕ → ℕ → ℕ → ℕ → ℕ → (ℕ → ℕ → Node) → Entry
 plain c first last own limit f =
-    record { code = c; row = record { first = first; last = last; own = own; x = none; limit = limit; y = none; block = 1 }; make = f }
+    record {
+      code = c;
+      row = record { first = first; last = last; own = own; x = none; limit = limit; y = none; fourth = zeroByte; block = 1 };
+      make = λ x y q. f x y;
+    }
 
--- any other line: code, first and last version, own sort, sorts of x and y, block length under a clock, node
+-- a line of a base operator: code, first and last version, own sort, sorts of x and y, block length under a clock, node
 abbrev pub entry : ℕ → ℕ → ℕ → ℕ → ℕ → ℕ → ℕ → (ℕ → ℕ → Node) → Entry
 entry c first last own x y block f =
-    record { code = c; row = record { first = first; last = last; own = own; x = x; limit = 0; y = y; block = block }; make = f }
+    record {
+      code = c;
+      row = record { first = first; last = last; own = own; x = x; limit = 0; y = y; fourth = zeroByte; block = block };
+      make = λ x y q. f x y;
+    }
+
+-- a line of a derived operator, known in version 3 alone: code, own sort, sorts of x and y, what the fourth byte q may be, node. It is expanded before
+-- anything is rewritten, so the length of its block is never asked
+abbrev pub derived : ℕ → ℕ → ℕ → ℕ → ℕ → (ℕ → ℕ → ℕ → Node) → Entry
+derived c own x y fourth f =
+    record { code = c; row = record { first = 3; last = 3; own = own; x = x; limit = 0; y = y; fourth = fourth; block = 1 }; make = f }
 
 unfoldable pub operators : List Entry
 operators =
@@ -65,6 +97,10 @@ operators =
     ∷ entry 20 1 4 sequence sequence none 1 (λ x y. Sequence (Empty x))
     ∷ entry 21 1 4 sequence sequence none 1 (λ x y. Sequence (Repeat x))
     ∷ entry 22 1 4 sequence boolean sequence 0 (λ x y. Sequence (Clocked x y))
+    ∷ derived 23 sequence sequence none rangeByte (λ x y q. Sequence (Derived (Repeated x (q % 16) (q / 16))))
+    ∷ derived 24 sequence sequence sequence rangeByte (λ x y q. Sequence (Derived (Delayed x y (q % 16) (q / 16))))
+    ∷ derived 25 sequence boolean none countByte (λ x y q. Sequence (Derived (Goto x q)))
+    ∷ derived 26 sequence boolean none countByte (λ x y q. Sequence (Derived (Nonconsecutive x q)))
     ∷ entry 32 1 4 property sequence none 1 (λ x y. Property (Strong x))
     ∷ entry 33 1 4 property sequence none 1 (λ x y. Property (Weak x))
     ∷ entry 34 1 4 property property none 1 (λ x y. Property (Negated x))
@@ -74,10 +110,17 @@ operators =
     ∷ entry 38 1 4 property property none 14 (λ x y. Property (Next x))
     ∷ entry 39 1 4 property property property 9 (λ x y. Property (Until x y))
     ∷ entry 40 1 4 property boolean property 0 (λ x y. Property (Ticked x y))
+    ∷ derived 41 property sequence property zeroByte (λ x y q. Property (Defined (ImpliesNext x y)))
+    ∷ derived 42 property sequence property zeroByte (λ x y q. Property (Defined (Followed x y)))
+    ∷ derived 43 property sequence property zeroByte (λ x y q. Property (Defined (FollowedNext x y)))
+    ∷ derived 44 property property none zeroByte (λ x y q. Property (Defined (Always x)))
+    ∷ derived 45 property property none zeroByte (λ x y q. Property (Defined (Eventually x)))
+    ∷ derived 46 property property property zeroByte (λ x y q. Property (Defined (StrongUntil x y)))
+    ∷ derived 47 property property none zeroByte (λ x y q. Property (Defined (StrongNext x)))
     ∷ []
 
 abbrev pub unknown : Row
-unknown = record { first = 0; last = 0; own = none; x = none; limit = 0; y = none; block = 0 }
+unknown = record { first = 0; last = 0; own = none; x = none; limit = 0; y = none; fourth = zeroByte; block = 0 }
 
 -- what the line with the code says, or d where there is no such line
 unfoldable pub lookup : {A : Type 0} → (Entry → A) → A → List Entry → ℕ → A
@@ -89,12 +132,15 @@ rowOf op = lookup (λ e. e .row) unknown operators op
 
 -- an unknown operator, which no accepted table has, stands for the constant 0
 unfoldable pub nodeOf : Raw → Node
-nodeOf n = lookup (λ e. e .make (n .x) (n .y)) (Boolean (Constant 0)) operators (n .op)
+nodeOf n = lookup (λ e. e .make (n .x) (n .y) (n .fourth)) (Boolean (Constant 0)) operators (n .op)
 
 -- ---- a node as its four bytes, for each case of every enum
 
+abbrev pub fourBytes : ℕ → ℕ → ℕ → ℕ → Raw
+fourBytes op x y q = record { op = op; x = x; y = y; fourth = q }
+
 abbrev pub bytes : ℕ → ℕ → ℕ → Raw
-bytes op x y = record { op = op; x = x; y = y; fourth = 0 }
+bytes op x y = fourBytes op x y 0
 
 unfoldable pub booleanBytes : BooleanOp → Raw
 booleanBytes (Constant x) = bytes 0 x 0
@@ -105,6 +151,25 @@ booleanBytes (Or x y) = bytes 4 x y
 booleanBytes (Risen x) = bytes 5 x 0
 booleanBytes (Fallen x) = bytes 6 x 0
 
+-- the fourth byte of a range
+abbrev pub ranged : ℕ → ℕ → ℕ
+ranged m n = m + 16 * n
+
+unfoldable pub derivedSequenceBytes : DerivedSequence → Raw
+derivedSequenceBytes (Repeated x m n) = fourBytes 23 x 0 (ranged m n)
+derivedSequenceBytes (Delayed x y m n) = fourBytes 24 x y (ranged m n)
+derivedSequenceBytes (Goto x m) = fourBytes 25 x 0 m
+derivedSequenceBytes (Nonconsecutive x m) = fourBytes 26 x 0 m
+
+unfoldable pub derivedPropertyBytes : DerivedProperty → Raw
+derivedPropertyBytes (ImpliesNext x y) = bytes 41 x y
+derivedPropertyBytes (Followed x y) = bytes 42 x y
+derivedPropertyBytes (FollowedNext x y) = bytes 43 x y
+derivedPropertyBytes (Always x) = bytes 44 x 0
+derivedPropertyBytes (Eventually x) = bytes 45 x 0
+derivedPropertyBytes (StrongUntil x y) = bytes 46 x y
+derivedPropertyBytes (StrongNext x) = bytes 47 x 0
+
 unfoldable pub sequenceBytes : SequenceOp → Raw
 sequenceBytes (Letter x) = bytes 16 x 0
 sequenceBytes (Then x y) = bytes 17 x y
@@ -113,6 +178,7 @@ sequenceBytes (Either x y) = bytes 19 x y
 sequenceBytes (Empty x) = bytes 20 x 0
 sequenceBytes (Repeat x) = bytes 21 x 0
 sequenceBytes (Clocked x y) = bytes 22 x y
+sequenceBytes (Derived o) = derivedSequenceBytes o
 
 unfoldable pub propertyBytes : PropertyOp → Raw
 propertyBytes (Strong x) = bytes 32 x 0
@@ -124,6 +190,7 @@ propertyBytes (Implies x y) = bytes 37 x y
 propertyBytes (Next x) = bytes 38 x 0
 propertyBytes (Until x y) = bytes 39 x y
 propertyBytes (Ticked x y) = bytes 40 x y
+propertyBytes (Defined o) = derivedPropertyBytes o
 
 unfoldable pub bytesOf : Node → Raw
 bytesOf (Boolean o) = booleanBytes o
@@ -132,11 +199,17 @@ bytesOf (Property o) = propertyBytes o
 
 -- ---- decoding
 
--- the bytes that a node can have: a known operator, 0 for an unused y and for the fourth byte
+-- v is right as a fourth byte of that kind
+pub record Fourth (kind v : ℕ) : Type 0 where
+  pub zero : kind ≡ zeroByte → v ≡ 0
+  pub range : kind ≡ rangeByte → v % 16 ≤ v / 16
+  pub count : kind ≡ countByte → v ≤ 15
+
+-- the bytes that a node can have: a known operator, 0 for an unused y, and a right fourth byte
 pub record Written (n : Raw) : Type 0 where
   pub known : ¬ (rowOf (n .op) .own ≡ none)
   pub unused : rowOf (n .op) .y ≡ none → n .y ≡ 0
-  pub fourth : n .fourth ≡ 0
+  pub fourth : Fourth (rowOf (n .op) .fourth) (n .fourth)
 
 -- the node r is decoded from the bytes n: the one that the table of operators makes of them, and where a node can have these bytes, its own
 pub record Decodes (n : Raw) (r : Node) : Type 0 where

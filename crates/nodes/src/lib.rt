@@ -63,7 +63,26 @@ pub enum BooleanOp {
     Fallen(usize),
 }
 
-// The kinds of a sequence, operators 16 to 22: one letter, ##1, ##0, or, [*0], [*1:$], @(c).
+// The kinds of a derived sequence, operators 23 to 26: [*m:n], ##[m:n], [->m], [=m]. After the operands come m and n.
+pub enum DerivedSequence {
+    Repeated(usize, usize, usize),
+    Delayed(usize, usize, usize, usize),
+    Goto(usize, usize),
+    Nonconsecutive(usize, usize),
+}
+
+// The kinds of a derived property, operators 41 to 47: |=>, #-#, #=#, always, s_eventually, s_until, s_nexttime.
+pub enum DerivedProperty {
+    ImpliesNext(usize, usize),
+    Followed(usize, usize),
+    FollowedNext(usize, usize),
+    Always(usize),
+    Eventually(usize),
+    StrongUntil(usize, usize),
+    StrongNext(usize),
+}
+
+// The kinds of a sequence, operators 16 to 22: one letter, ##1, ##0, or, [*0], [*1:$], @(c); and the derived ones.
 pub enum SequenceOp {
     Letter(usize),
     Then(usize, usize),
@@ -72,9 +91,10 @@ pub enum SequenceOp {
     Empty(usize),
     Repeat(usize),
     Clocked(usize, usize),
+    Derived(DerivedSequence),
 }
 
-// The kinds of a property, operators 32 to 40: strong, weak, not, or, and, |->, nexttime, until, @(c).
+// The kinds of a property, operators 32 to 40: strong, weak, not, or, and, |->, nexttime, until, @(c); and the derived ones.
 pub enum PropertyOp {
     Strong(usize),
     Weak(usize),
@@ -85,6 +105,7 @@ pub enum PropertyOp {
     Next(usize),
     Until(usize, usize),
     Ticked(usize, usize),
+    Defined(DerivedProperty),
 }
 
 // A decoded node.
@@ -101,6 +122,9 @@ pub fn decode(n: Raw) -> Node
     let op = n.op;
     let x = n.x as usize;
     let y = n.y as usize;
+    let count = n.fourth as usize;
+    let low = count % 16;
+    let high = count / 16;
     match op {
         0 => Node::Boolean(BooleanOp::Constant(x)),
         1 => Node::Boolean(BooleanOp::Signal(x)),
@@ -116,6 +140,10 @@ pub fn decode(n: Raw) -> Node
         20 => Node::Sequence(SequenceOp::Empty(x)),
         21 => Node::Sequence(SequenceOp::Repeat(x)),
         22 => Node::Sequence(SequenceOp::Clocked(x, y)),
+        23 => Node::Sequence(SequenceOp::Derived(DerivedSequence::Repeated(x, low, high))),
+        24 => Node::Sequence(SequenceOp::Derived(DerivedSequence::Delayed(x, y, low, high))),
+        25 => Node::Sequence(SequenceOp::Derived(DerivedSequence::Goto(x, count))),
+        26 => Node::Sequence(SequenceOp::Derived(DerivedSequence::Nonconsecutive(x, count))),
         32 => Node::Property(PropertyOp::Strong(x)),
         33 => Node::Property(PropertyOp::Weak(x)),
         34 => Node::Property(PropertyOp::Negated(x)),
@@ -125,6 +153,13 @@ pub fn decode(n: Raw) -> Node
         38 => Node::Property(PropertyOp::Next(x)),
         39 => Node::Property(PropertyOp::Until(x, y)),
         40 => Node::Property(PropertyOp::Ticked(x, y)),
+        41 => Node::Property(PropertyOp::Defined(DerivedProperty::ImpliesNext(x, y))),
+        42 => Node::Property(PropertyOp::Defined(DerivedProperty::Followed(x, y))),
+        43 => Node::Property(PropertyOp::Defined(DerivedProperty::FollowedNext(x, y))),
+        44 => Node::Property(PropertyOp::Defined(DerivedProperty::Always(x))),
+        45 => Node::Property(PropertyOp::Defined(DerivedProperty::Eventually(x))),
+        46 => Node::Property(PropertyOp::Defined(DerivedProperty::StrongUntil(x, y))),
+        47 => Node::Property(PropertyOp::Defined(DerivedProperty::StrongNext(x))),
         _ => Node::Boolean(BooleanOp::Constant(0)),
     }
 }

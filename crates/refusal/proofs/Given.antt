@@ -72,6 +72,13 @@ unfolding Answers
 answers-beyond [] ss v n a = a
 answers-beyond (r ∷ rs) ss v n a = inr (n .0, answers-beyond rs ss v (n .1) a)
 
+-- a refusal of the first ones is one of all
+pub answers-stopped : (rs ss : List Refusal) (v : Verdict) → ¬ (v .number ≡ 0) → Answers rs v → Answers (rs ++ ss) v
+unfolding Answers
+answers-stopped [] ss v z (n, _) = absurd (z n)
+answers-stopped (r ∷ rs) ss v z (inl a) = inl a
+answers-stopped (r ∷ rs) ss v z (inr (un, a)) = inr (un, answers-stopped rs ss v z a)
+
 -- ---- what is answered is the first refusal given
 
 -- an answer that is no acceptance is that of a refusal given, with none before it

@@ -1,245 +1,104 @@
--- The tests of a table decide its refusals, one after the other; and what an accepted table has. Assumes nothing.
+-- What checking says of a table with base operators alone, for the engines, which read it as it stands: the theorems at versions 1 to `base`.
+-- Assumes nothing.
 use native.Mathlib.Omega.{arith}
-use native.Mathlib.Nat.{eq-or-lt-of-le, le-of-suc-le-suc, lt-of-not-le, pos-of-ne-zero}
-use borrow.Author.Tests.{le-ltb, ne-eqb, eqb-true, not-false}
-use mathlib.Core.Path.{_≡_, refl, sym, subst}
-use mathlib.Core.Logic.{_⊎_, inl, inr, ⊎-elim}
-use mathlib.Core.Bool.{false, not, _&&_}
+use mathlib.Core.Path.{_≡_, refl, subst}
+use mathlib.Core.Logic.{_⊎_, ⊎-elim}
 use mathlib.Core.List.{List}
-use Prim.Native.Nat.{ℕ, suc, _+_, _*_, _<_, _≤_}
-use lib.Dec.{T, eqb, leb}
-use lib.ListN.{length, take, drop}
-use Rattle.telling.specs.Tells.{Tells}
-use Rattle.telling.proofs.Telling.{is-map, is-or, is-and, is-not, is-eq, is-lt, is-le, passed}
+use Prim.Native.Nat.{ℕ, _≤_}
+use lib.ListN.{length, take}
 use Rattle.refusal.specs.declared.Verdict.{Verdict}
-use Rattle.refusal.specs.Heading.{count, version, mark, Known, headingRefusals}
-use Rattle.refusal.specs.First.{LowestSuch, when, atLowest, Answers, NotGiven}
-use Rattle.refusal.specs.Computed.{refused, accepted, at0, atFirst, headingCases}
-use Rattle.refusal.proofs.Firsts.{none-below}
-use Rattle.refusal.proofs.Deciding.{Decided, Decides, decided-when, decided-lowest, decides-append, not-applied, answers}
-use Rattle.refusal.proofs.Given.{Other, reached, beyond, answers-none, none-given}
-use Rattle.refusal.proofs.Unique.{Singles, single-when, single-lowest, singles-append, answers-unique}
-use Rattle.refusal.proofs.Headings.{known-if, decides-heading, heading-singles}
-use Rattle.nodes.specs.declared.Node.{Node}
-use Rattle.nodes.specs.Operators.{boolean, sequence, property, newest}
-use Rattle.nodes.specs.Nodes.{rawAt, rowAt, sortAt, nodeAt, usesOf, root, WellFormed, Astray}
-use Rattle.table.specs.Check.{Asks, by-strong, by-weak, by-implies, Hollow, refusals, Checks}
-use Rattle.faults.specs.Flags.{hollow}
-use Rattle.faults.specs.Computed.{nodeFits, unfit, astray}
-use Rattle.table.specs.Computed.{nodeCases, laterCases, cases, checked}
-use Rattle.table.proofs.Forming.{fits-tells}
-use Rattle.nodes.proofs.Shapes.{sortOf, sort-is}
-use Rattle.table.proofs.Standing.{sequence-in, clock-in}
-use Rattle.table.proofs.Topping.{asked, asks-of, hollow-tells}
-use Rattle.nodes.proofs.Placing.{fine-row}
-use Rattle.nodes.proofs.Built.{Built}
-use Rattle.nodes.proofs.Clocking.{clock-exists}
+use Rattle.refusal.specs.Heading.{version, count, mark, Known}
+use Rattle.refusal.specs.First.{NotGiven}
+use Rattle.refusal.specs.Computed.{accepted}
+use Rattle.refusal.proofs.Deciding.{Decides}
+use Rattle.refusal.proofs.Given.{Other}
+use Rattle.refusal.proofs.Unique.{Singles}
+use Rattle.meaning.specs.Syntax.{Seq, Prop, free}
+use Rattle.meaning.specs.Meaning.{Accepted}
+use Rattle.meaning.specs.Pairs.{Atom, reading}
+use Rattle.nodes.specs.Operators.{base}
+use Rattle.nodes.specs.Nodes.{nodeAt, root}
+use Rattle.nodes.proofs.Built.{Built, root-in}
+use Rattle.table.specs.Trees.{SequenceAt, PropertyAt, RootS, RootP}
+use Rattle.table.specs.Check.{refusals, Checks}
+use Rattle.table.specs.Computed.{cases, checked, checkedTo}
+use Rattle.table.proofs.Standing.{sequence-in, property-in}
+use Rattle.table.proofs.Topping.{accepted-at}
+use Rattle.table.proofs.CheckingTo as to
+use Rattle.table.proofs.CheckingTo.{SoundTo}
+use Rattle.table.proofs.Theorems as theorems
+
+abbrev pub Sound : List ℕ → Type 0
+Sound s = SoundTo base s
 
 module _ (s : List ℕ) where
-  -- ---- 6
-
-  all-formed : ((k : ℕ) → k < count s → unfit s k ≡ false) → (k : ℕ) → k < count s → WellFormed s k
-  all-formed h k l = fits-tells s k .to (passed (not-false (nodeFits s (version s) k) (h k l)))
-
-  -- ---- 7
-
-  -- a sort that is not below a sequence's is a sequence's or a property's
-  heavy-sort : (k : ℕ) → sequence ≤ sortAt s k → (sortAt s k ≡ sequence) ⊎ (sortAt s k ≡ property)
-  unfolding sortAt
-  heavy-sort k m =
-      let l = fine-row (rawAt s k .op) .0 in
-      ⊎-elim (λ (e : sequence ≡ rowAt s k .own). inl (sym e)) (λ (g : sequence < rowAt s k .own). inr (omega arith)) (eq-or-lt-of-le m)
-
-  pub sorts : (k : ℕ) → WellFormed s k → ¬ (sortAt s k ≡ boolean) → (sortAt s k ≡ sequence) ⊎ (sortAt s k ≡ property)
-  sorts k w b = let z = w .known in heavy-sort k (omega arith)
-
-  astray-tells : (n k : ℕ) → Tells (astray s n k) (Astray s n k)
-  unfolding astray
-  astray-tells n k =
-      is-map (is-and (is-not (is-lt (sortAt s k) sequence)) (is-and (is-not (is-eq (k + 1) n)) (is-not (is-eq (usesOf s k n) 1))))
-      (λ q. record { sort = heavy-sort k (le-of-suc-le-suc (lt-of-not-le (q .0))); inner = λ e. q .1 .0 (omega arith); places = q .1 .1 })
-      (λ a. (⊎-elim (λ (e : sortAt s k ≡ sequence) h. omega arith) (λ (e : sortAt s k ≡ property) h. omega arith) (a .sort), (λ e. a .inner (omega arith), a .places)))
-
-  -- not astray, and so in one place
-  placed : (n : ℕ) → ((k : ℕ) → k < n → astray s n k ≡ false) → (k : ℕ) → suc k < n → sequence ≤ sortAt s k → usesOf s k n ≡ 1
-  unfolding astray
-  placed n h k l z =
-      let e = h k (omega arith) in
-      eqb-true (usesOf s k n) 1 (not-false (eqb (usesOf s k n) 1) (rw (le-ltb (sortAt s k) sequence z, ne-eqb (k + 1) n (λ q. omega arith)) at e))
-
-  -- ---- 9
-
-  module _ (ok : Built s) where
-    hollows-tell : (k : ℕ) → k < count s → Tells (hollow s k) (Hollow s k)
-    hollows-tell k l = record {
-      to = λ t.
-          let (x, a) = asks-of s (count s) (ok .fit) k l t in
-          let (e, b, z) = asked s (count s) (ok .fit) k l a refl in
-          let (r, d) = sequence-in s (count s) (ok .fit) (count s) x (omega arith) (omega arith) z in
-          let (ρ, c, o) = clock-exists s ok k l (heavy k l a) in
-          let (κ, m) = clock-in s ok ρ o in
-          record {
-            x = x;
-            asks = a;
-            sequence = r;
-            stands = d;
-            ref = ρ;
-            clocked = c;
-            clock = κ;
-            means = m;
-            never = hollow-tells s (count s) (ok .fit) k l a d κ .to t;
-          };
-      from = λ h. hollow-tells s (count s) (ok .fit) k l (h .asks) (h .stands) (h .clock) .from (h .never);
-    }
-      where
-        property-asks : {v : Node} {x : ℕ} → Asks v x → sequence ≤ sortOf v
-        property-asks by-strong = omega arith
-        property-asks by-weak = omega arith
-        property-asks by-implies = omega arith
-
-        heavy : (k : ℕ) → k < count s → {x : ℕ} → Asks (nodeAt s k) x → sequence ≤ sortAt s k
-        heavy k l a = let h = property-asks a in let e = sort-is s k (ok .fit k l) in omega arith
-
-  -- ---- all
-
-  five : Decided (at0 5 (not (eqb (length s) (4 * count s + 6)))) (when 5 (¬ (length s ≡ 6 + 4 * count s)))
-  five = decided-when 5 (is-not (is-map (is-eq (length s) (4 * count s + 6)) (λ e. omega arith) (λ e. omega arith)))
-
-  six : Decided (atFirst 6 (count s) (unfit s)) (atLowest 6 (count s) (λ k. ¬ WellFormed s k))
-  six = decided-lowest (unfit s) (count s) 6 (λ k l. is-not (fits-tells s k))
-
-  seven : Decided (atFirst 7 (count s) (astray s (count s))) (atLowest 7 (count s) (Astray s (count s)))
-  seven = decided-lowest (astray s (count s)) (count s) 7 (λ k l. astray-tells (count s) k)
-
-  built : ((k : ℕ) → ¬ (when 3 (¬ Known newest (version s))) .given k) → ((k : ℕ) → ¬ (when 4 ((count s ≡ 0) ⊎ (120 < count s))) .given k) → ((k : ℕ) → ¬ (when 5 (¬ (length s ≡ 6 + 4 * count s))) .given k)
-      → ((k : ℕ) → ¬ LowestSuch (count s) (λ k. ¬ WellFormed s k) k) → ((k : ℕ) → ¬ LowestSuch (count s) (Astray s (count s)) k)
-      → ((k : ℕ) → ¬ (when 8 (sortAt s (root s) ≡ boolean)) .given k) → Built s
-  built h3 h4 h5 h6 h7 h8 = record {
-    known = known-if newest (version s) h3;
-    some = pos-of-ne-zero (λ e. h4 0 (refl, inl e));
-    few = le-of-suc-le-suc (lt-of-not-le (λ l. h4 0 (refl, inr l)));
-    long = eqb-true (length s) (4 * count s + 6) (not-false (eqb (length s) (4 * count s + 6)) (not-applied five h5));
-    fit = all-formed (none-below (unfit s) (count s) (not-applied six h6));
-    once = placed (count s) (none-below (astray s (count s)) (count s) (not-applied seven h7));
-    rooted = λ e. h8 0 (refl, e);
-  }
-
-  nine : Built s → Decided (atFirst 9 (count s) (hollow s)) (atLowest 9 (count s) (Hollow s))
-  nine b = decided-lowest (hollow s) (count s) 9 (hollows-tell b)
-
   pub decides : Decides (cases s) (refusals s)
-  unfolding laterCases nodeCases refusals
-  decides =
-      decides-append (headingCases 0x54 newest s) (laterCases s) (headingRefusals 0x54 newest s) _ (decides-heading 0x54 newest s)
-      (λ h. (
-        decided-when 4 (is-or (is-eq (count s) 0) (is-lt 120 (count s))),
-        λ h4. (
-          five,
-          λ h5. (
-            six,
-            λ h6. (seven, λ h7. (decided-when 8 (is-eq (sortAt s (root s)) boolean), λ h8. (nine (built (h .1 .1 .0) h4 h5 h6 h7 h8), λ _. tt))),
-          ),
-        ),
-      ))
+  unfolding refusals
+  decides = to.decides s base
 
   pub checks : (v : Verdict) → v ≡ checked s → Checks s v
-  unfolding checked
-  checks v e = subst (Checks s) (sym e) (answers (cases s) (refusals s) decides)
+  unfolding refusals checked checkedTo
+  checks v e = to.checks s base v e
 
--- ---- what an answer says of a table
-
--- an accepted one
-pub record Sound (s : List ℕ) : Type 0 where
-  pub formed : Built s
-  pub solid : (k : ℕ) → k < count s → hollow s k ≡ false
-
-module _ (s : List ℕ) (v : Verdict) (c : Checks s v) where
-  -- an answer that is none of 1 to 8: what the table has, and the ninth
-  past-eight : ((i : ℕ) → 1 ≤ i → i ≤ 8 → ¬ (v .number ≡ i)) → Built s × Answers (drop 8 (refusals s)) v
-  unfolding refusals
-  past-eight o =
-      let others : Other v (take 8 (refusals s)) = (
-        o 1 (omega arith) (omega arith),
-        (o 2 (omega arith) (omega arith), (o 3 (omega arith) (omega arith), (o 4 (omega arith) (omega arith), (o 5 (omega arith) (omega arith), (o 6 (omega arith) (omega arith), (o 7 (omega arith) (omega arith), (o 8 (omega arith) (omega arith), tt))))))),
-      ) in
-      let ((h1, (h2, (h3, (h4, (h5, (h6, (h7, (h8, t)))))))), a) = reached (take 8 (refusals s)) (drop 8 (refusals s)) v others c in
-      (built s h3 h4 h5 h6 h7 h8, a)
-
-  pub sound : v .number ≡ 0 → Sound s
-  unfolding refusals Answers
-  sound z =
-      let (b, a) = past-eight (λ i l m e. omega arith) in
-      record {
-        formed = b;
-        solid = none-below (hollow s) (count s) (not-applied (nine s b) (⊎-elim (λ q. absurd (let e = q .0 in omega arith)) (λ q. q .0) a));
-      }
-
-  -- and one that is refused with 9
-  pub hollow-one : v .number ≡ 9 → Built s × Hollow s (v .node)
-  unfolding refusals Answers
-  hollow-one z =
-      let (b, a) = past-eight (λ i l m e. omega arith) in
-      (b, ⊎-elim (λ q. q .1 .such) (λ q. absurd (let e = q .1 .0 in omega arith)) a)
-
-  -- a table that gets none of 1 to 8 is refused with 9 or accepted
-  pub nine-or-none : 6 ≤ length s → take 3 s ≡ mark 0x54 → Built s → (v .number ≡ 9) ⊎ (v ≡ accepted)
-  unfolding refusals Answers
-  nine-or-none l m b =
-      let few : ¬ (120 < count s) = λ g. let f = b .few in omega arith in
-      let some : ¬ (count s ≡ 0) = λ e. let f = b .some in omega arith in
-      let long : length s ≡ 6 + 4 * count s = let f = b .long in omega arith in
-      let not-given : NotGiven (take 8 (refusals s)) = (
-        λ k q. let g = q .1 in omega arith,
-        (
-          λ k q. q .1 m,
-          (
-            λ k q. q .1 (b .known),
-            (
-              λ k q. ⊎-elim some few (q .1),
-              (
-                λ k q. q .1 long,
-                (
-                  λ k q. q .such (b .fit k (q .below)),
-                  (
-                    λ k q. let a = q .such in a .places (b .once k (let i = a .inner in let j = q .below in omega arith) (heavy k (a .sort))),
-                    (λ k q. b .rooted (q .1), tt),
-                  ),
-                ),
-              ),
-            ),
-          ),
-        ),
-      ) in
-      ⊎-elim (λ q. inl (q .0)) (λ q. inr (λ i. refused (q .1 .0 i) (q .1 .1 i))) (beyond (take 8 (refusals s)) (drop 8 (refusals s)) v not-given c)
-    where
-      heavy : (k : ℕ) → (sortAt s k ≡ sequence) ⊎ (sortAt s k ≡ property) → sequence ≤ sortAt s k
-      heavy k z = ⊎-elim (λ (e : sortAt s k ≡ sequence). omega arith) (λ (e : sortAt s k ≡ property). omega arith) z
-
--- ---- the refusals of a table among others
-
-module _ (s : List ℕ) where
   pub checks-none : NotGiven (refusals s) → Checks s accepted
-  checks-none n = answers-none (refusals s) accepted n refl refl
+  unfolding refusals
+  checks-none n = to.checks-none base s n
 
   pub checks-given : (v : Verdict) → Checks s v → v .number ≡ 0 → NotGiven (refusals s)
   unfolding refusals
-  checks-given v c z = none-given (refusals s) tt v z c .0
+  checks-given v c z = to.checks-given base s v c z
 
-  -- they are numbered 1 to 9
   pub not-of-table : (v : Verdict) → ¬ ((1 ≤ v .number) × (v .number ≤ 9)) → Other v (refusals s)
   unfolding refusals
-  not-of-table v h = (no 1 tt, (no 2 tt, (no 3 tt, (no 4 tt, (no 5 tt, (no 6 tt, (no 7 tt, (no 8 tt, (no 9 tt, tt)))))))))
-    where
-      no : (i : ℕ) → T (leb 1 i && leb i 9) → ¬ (v .number ≡ i)
-      no i t e = let (a, b) = is-and (is-le 1 i) (is-le i 9) .to t in h (omega arith, omega arith)
+  not-of-table v h = to.not-of-table base s v h
 
-  -- each is given at one node at most
   pub table-singles : Singles (refusals s)
   unfolding refusals
-  table-singles =
-      singles-append (headingRefusals 0x54 newest s) (drop 3 (refusals s)) (heading-singles 0x54 newest s)
-      (single-when 4 _, (single-when 5 _, (single-lowest 6 _ _, (single-lowest 7 _ _, (single-when 8 _, (single-lowest 9 _ _, tt))))))
+  table-singles = to.table-singles base s
 
-  -- and so no second verdict fits
   pub checks-only : (v : Verdict) → Checks s v → v ≡ checked s
-  checks-only v c = answers-unique (refusals s) table-singles v (checked s) c (checks s (checked s) refl)
+  unfolding refusals checked checkedTo
+  checks-only v c = to.checks-only base s v c
+
+module _ (s : List ℕ) (v : Verdict) (c : Checks s v) where
+  pub sound : v .number ≡ 0 → Sound s
+  unfolding refusals
+  sound z = to.sound base s v c z
+
+  nine-or-none : 6 ≤ length s → take 3 s ≡ mark 0x54 → Known base (version s) → Built s → (v .number ≡ 9) ⊎ (v ≡ accepted)
+  unfolding refusals
+  nine-or-none l m o b = to.nine-or-none base s v c l m o b
+
+  pub accepted-root : v .number ≡ 0 → (P : Prop Atom) → PropertyAt (nodeAt s) (root s) P → Accepted reading free P
+  unfolding refusals
+  accepted-root z P d = theorems.accepted-root base s v c z P d
+
+  pub refused-sequence : v .number ≡ 9 → (r : Seq Atom) → ¬ SequenceAt (nodeAt s) (root s) r
+  unfolding refusals
+  refused-sequence z r d = theorems.refused-sequence base s v c z r d
+
+  pub refused-root : v .number ≡ 9 → (P : Prop Atom) → PropertyAt (nodeAt s) (root s) P → ¬ Accepted reading free P
+  unfolding refusals
+  refused-root z P d a = theorems.refused-root base s v c z P d a
+
+-- ---- a table made from a sound one, whose root stands for what f or g makes of the other's, is accepted
+
+module _ {newest : ℕ} (s : List ℕ) (sound : SoundTo newest s) (t : List ℕ) (f : Seq Atom → Seq Atom) (g : Prop Atom → Prop Atom)
+    (sequences : (r : Seq Atom) → RootS s r → RootS t (f r)) (properties : (P : Prop Atom) → RootP s P → RootP t (g P))
+    (keeps : (P : Prop Atom) → Accepted reading free P → Accepted reading free (g P)) where
+  -- 9 is given for no sequence, and for no property that the meaning accepts
+  not-nine : Checks t (checked t) → ¬ (checked t .number ≡ 9)
+  not-nine c z =
+      let ok = sound .formed in
+      let l = root-in ok in
+      ⊎-elim
+      (λ e. let (r, d) = sequence-in s (count s) (ok .fit) (count s) (root s) l l e in refused-sequence t (checked t) c z (f r) (sequences r d))
+      (λ e.
+      let (P, d) = property-in s (count s) (ok .fit) (count s) (root s) l l e in
+      refused-root t (checked t) c z (g P) (properties P d) (keeps P (accepted-at s (count s) (ok .fit) (sound .solid) d l free)))
+      (to.sorts s (root s) (ok .fit (root s) l) (ok .rooted))
+
+  pub made-checks : take 3 t ≡ mark 0x54 → Known base (version t) → Built t → Checks t accepted
+  made-checks m o b =
+      let c = checks t (checked t) refl in
+      ⊎-elim (λ z. absurd (not-nine c z)) (λ e. subst (Checks t) e c) (nine-or-none t (checked t) c (let l = b .long in omega arith) m o b)

@@ -4,6 +4,8 @@ pub mod Forming
 pub mod Reading
 pub mod Standing
 pub mod VersionOne
+pub mod Repeats
 pub mod Topping
 pub mod Within
+pub mod CheckingTo
 pub mod Checking

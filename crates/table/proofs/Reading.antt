@@ -4,14 +4,17 @@ use mathlib.Core.Path.{_≡_, refl, sym, ap, subst, _∙_}
 use Prim.Native.Nat.{ℕ}
 use lib.Dec.{eqb}
 use Rattle.meaning.specs.Syntax.{Bexp, const, atom, nott, andd, orr, Seq, one, cat, fuse, alt, empty, plus, clocked, Prop, strong, weak, neg, either, both, implies, next, until, under, Clock, on}
+use Rattle.derived.specs.Derived.{range, delay, goto, nonconsecutive, impliesNext, followed, followedNext, always, eventually, strongUntil, strongNext}
 use Rattle.meaning.specs.Pairs.{Atom, high, risen, fallen}
 use Rattle.nodes.specs.declared.Node.{Node}
 use Rattle.nodes.specs.declared.Node.the-variants.{Boolean, Sequence, Property}
 use Rattle.nodes.specs.declared.BooleanOp.the-variants.{Constant, Signal, Not, And, Or, Risen, Fallen}
-use Rattle.nodes.specs.declared.SequenceOp.the-variants.{Letter, Then, Fused, Either, Empty, Repeat, Clocked}
-use Rattle.nodes.specs.declared.PropertyOp.the-variants.{Strong, Weak, Negated, AnyOf, BothOf, Implies, Next, Until, Ticked}
+use Rattle.nodes.specs.declared.SequenceOp.the-variants.{Letter, Then, Fused, Either, Empty, Repeat, Clocked, Derived}
+use Rattle.nodes.specs.declared.PropertyOp.the-variants.{Strong, Weak, Negated, AnyOf, BothOf, Implies, Next, Until, Ticked, Defined}
+use Rattle.nodes.specs.declared.DerivedSequence.the-variants.{Repeated, Delayed, Goto, Nonconsecutive}
+use Rattle.nodes.specs.declared.DerivedProperty.the-variants.{ImpliesNext, Followed, FollowedNext, Always, Eventually, StrongUntil, StrongNext}
 use Rattle.nodes.specs.NodeClock.{Ref}
-use Rattle.table.specs.Trees.{BooleanAt, b-const, b-sig, b-risen, b-fallen, b-not, b-and, b-or, SequenceAt, s-one, s-cat, s-fuse, s-alt, s-empty, s-plus, s-clock, PropertyAt, p-strong, p-weak, p-neg, p-either, p-both, p-imp, p-next, p-until, p-clock, ClockAt, c-free, c-on}
+use Rattle.table.specs.Trees.{BooleanAt, b-const, b-sig, b-risen, b-fallen, b-not, b-and, b-or, SequenceAt, s-one, s-cat, s-fuse, s-alt, s-empty, s-plus, s-clock, s-repeated, s-delayed, s-goto, s-nonconsecutive, PropertyAt, p-strong, p-weak, p-neg, p-either, p-both, p-imp, p-next, p-until, p-clock, p-implies-next, p-followed, p-followed-next, p-always, p-eventually, p-strong-until, p-strong-next, ClockAt, c-free, c-on}
 
 -- t is the tree of such a node
 module _ (T : ℕ → Node) where
@@ -35,6 +38,10 @@ module _ (T : ℕ → Node) where
   ReadS (Sequence (Fused x y)) t = (r : Seq Atom) × (s : Seq Atom) × (t ≡ fuse r s) × SequenceAt T x r × SequenceAt T y s
   ReadS (Sequence (Either x y)) t = (r : Seq Atom) × (s : Seq Atom) × (t ≡ alt r s) × SequenceAt T x r × SequenceAt T y s
   ReadS (Sequence (Clocked c x)) t = (b : Bexp Atom) × (r : Seq Atom) × (t ≡ clocked b r) × BooleanAt T c b × SequenceAt T x r
+  ReadS (Sequence (Derived (Repeated x m n))) t = (r : Seq Atom) × (t ≡ range r m n) × SequenceAt T x r
+  ReadS (Sequence (Derived (Delayed x y m n))) t = (r : Seq Atom) × (s : Seq Atom) × (t ≡ delay r s m n) × SequenceAt T x r × SequenceAt T y s
+  ReadS (Sequence (Derived (Goto x m))) t = (b : Bexp Atom) × (t ≡ goto b m) × BooleanAt T x b
+  ReadS (Sequence (Derived (Nonconsecutive x m))) t = (b : Bexp Atom) × (t ≡ nonconsecutive b m) × BooleanAt T x b
   ReadS (Property o) t = ⊥
 
   abbrev pub ReadP : Node → Prop Atom → Type 0
@@ -49,6 +56,13 @@ module _ (T : ℕ → Node) where
   ReadP (Property (Implies x y)) t = (r : Seq Atom) × (P : Prop Atom) × (t ≡ implies r P) × SequenceAt T x r × PropertyAt T y P
   ReadP (Property (Until x y)) t = (P : Prop Atom) × (Q : Prop Atom) × (t ≡ until P Q) × PropertyAt T x P × PropertyAt T y Q
   ReadP (Property (Ticked c x)) t = (b : Bexp Atom) × (P : Prop Atom) × (t ≡ under b P) × BooleanAt T c b × PropertyAt T x P
+  ReadP (Property (Defined (ImpliesNext x y))) t = (r : Seq Atom) × (P : Prop Atom) × (t ≡ impliesNext r P) × SequenceAt T x r × PropertyAt T y P
+  ReadP (Property (Defined (Followed x y))) t = (r : Seq Atom) × (P : Prop Atom) × (t ≡ followed r P) × SequenceAt T x r × PropertyAt T y P
+  ReadP (Property (Defined (FollowedNext x y))) t = (r : Seq Atom) × (P : Prop Atom) × (t ≡ followedNext r P) × SequenceAt T x r × PropertyAt T y P
+  ReadP (Property (Defined (Always x))) t = (P : Prop Atom) × (t ≡ always P) × PropertyAt T x P
+  ReadP (Property (Defined (Eventually x))) t = (P : Prop Atom) × (t ≡ eventually P) × PropertyAt T x P
+  ReadP (Property (Defined (StrongUntil x y))) t = (P : Prop Atom) × (Q : Prop Atom) × (t ≡ strongUntil P Q) × PropertyAt T x P × PropertyAt T y Q
+  ReadP (Property (Defined (StrongNext x))) t = (P : Prop Atom) × (t ≡ strongNext P) × PropertyAt T x P
 
 along : {A : Type 0} (R : Node → A → Type 0) {w v : Node} {t : A} → w ≡ v → R v t → R w t
 along R {t = t} e h = subst (λ v. R v t) (sym e) h
@@ -71,6 +85,10 @@ module _ {T : ℕ → Node} where
   readS (s-empty {r = r} e x) = along (ReadS T) e (r, refl, x)
   readS (s-plus {r = r} e x) = along (ReadS T) e (r, refl, x)
   readS (s-clock {b = b} {r = r} e d x) = along (ReadS T) e (b, r, refl, d, x)
+  readS (s-repeated {r = r} e x) = along (ReadS T) e (r, refl, x)
+  readS (s-delayed {r = r} {s = s} e x y) = along (ReadS T) e (r, s, refl, x, y)
+  readS (s-goto {b = b} e d) = along (ReadS T) e (b, refl, d)
+  readS (s-nonconsecutive {b = b} e d) = along (ReadS T) e (b, refl, d)
 
   pub readP : {k : ℕ} {P : Prop Atom} → PropertyAt T k P → ReadP T (T k) P
   readP (p-strong {r = r} e x) = along (ReadP T) e (r, refl, x)
@@ -82,6 +100,13 @@ module _ {T : ℕ → Node} where
   readP (p-imp {r = r} {P = P} e x y) = along (ReadP T) e (r, P, refl, x, y)
   readP (p-until {P = P} {Q = Q} e x y) = along (ReadP T) e (P, Q, refl, x, y)
   readP (p-clock {b = b} {P = P} e d x) = along (ReadP T) e (b, P, refl, d, x)
+  readP (p-implies-next {r = r} {P = P} e x y) = along (ReadP T) e (r, P, refl, x, y)
+  readP (p-followed {r = r} {P = P} e x y) = along (ReadP T) e (r, P, refl, x, y)
+  readP (p-followed-next {r = r} {P = P} e x y) = along (ReadP T) e (r, P, refl, x, y)
+  readP (p-always {P = P} e x) = along (ReadP T) e (P, refl, x)
+  readP (p-eventually {P = P} e x) = along (ReadP T) e (P, refl, x)
+  readP (p-strong-until {P = P} {Q = Q} e x y) = along (ReadP T) e (P, Q, refl, x, y)
+  readP (p-strong-next {P = P} e x) = along (ReadP T) e (P, refl, x)
 
   -- a node whose kind is known
   pub asB : {k : ℕ} {v : Node} {b : Bexp Atom} → T k ≡ v → BooleanAt T k b → ReadB T v b
@@ -110,6 +135,10 @@ module _ {T : ℕ → Node} where
   uniqueS (s-empty e x) z = let (r, q, f) = asS e z in ap empty (uniqueS x f) ∙ sym q
   uniqueS (s-plus e x) z = let (r, q, f) = asS e z in ap plus (uniqueS x f) ∙ sym q
   uniqueS (s-clock e d x) z = let (b, r, q, f, g) = asS e z in (λ i. clocked (uniqueB d f i) (uniqueS x g i)) ∙ sym q
+  uniqueS (s-repeated {m = m} {n = n} e x) z = let (r, q, f) = asS e z in (λ i. range (uniqueS x f i) m n) ∙ sym q
+  uniqueS (s-delayed {m = m} {n = n} e x y) z = let (r, s, q, f, g) = asS e z in (λ i. delay (uniqueS x f i) (uniqueS y g i) m n) ∙ sym q
+  uniqueS (s-goto {m = m} e d) z = let (b, q, f) = asS e z in (λ i. goto (uniqueB d f i) m) ∙ sym q
+  uniqueS (s-nonconsecutive {m = m} e d) z = let (b, q, f) = asS e z in (λ i. nonconsecutive (uniqueB d f i) m) ∙ sym q
 
   pub uniqueP : {k : ℕ} {P Q : Prop Atom} → PropertyAt T k P → PropertyAt T k Q → P ≡ Q
   uniqueP (p-strong e x) z = let (r, q, f) = asP e z in ap strong (uniqueS x f) ∙ sym q
@@ -121,6 +150,13 @@ module _ {T : ℕ → Node} where
   uniqueP (p-imp e x y) z = let (r, P, q, f, g) = asP e z in (λ i. implies (uniqueS x f i) (uniqueP y g i)) ∙ sym q
   uniqueP (p-until e x y) z = let (P, Q, q, f, g) = asP e z in (λ i. until (uniqueP x f i) (uniqueP y g i)) ∙ sym q
   uniqueP (p-clock e d x) z = let (b, P, q, f, g) = asP e z in (λ i. under (uniqueB d f i) (uniqueP x g i)) ∙ sym q
+  uniqueP (p-implies-next e x y) z = let (r, P, q, f, g) = asP e z in (λ i. impliesNext (uniqueS x f i) (uniqueP y g i)) ∙ sym q
+  uniqueP (p-followed e x y) z = let (r, P, q, f, g) = asP e z in (λ i. followed (uniqueS x f i) (uniqueP y g i)) ∙ sym q
+  uniqueP (p-followed-next e x y) z = let (r, P, q, f, g) = asP e z in (λ i. followedNext (uniqueS x f i) (uniqueP y g i)) ∙ sym q
+  uniqueP (p-always e x) z = let (P, q, f) = asP e z in ap always (uniqueP x f) ∙ sym q
+  uniqueP (p-eventually e x) z = let (P, q, f) = asP e z in ap eventually (uniqueP x f) ∙ sym q
+  uniqueP (p-strong-until e x y) z = let (P, Q, q, f, g) = asP e z in (λ i. strongUntil (uniqueP x f i) (uniqueP y g i)) ∙ sym q
+  uniqueP (p-strong-next e x) z = let (P, q, f) = asP e z in ap strongNext (uniqueP x f) ∙ sym q
 
   -- and a number for one clock
   pub uniqueC : {ρ : Ref} {κ μ : Clock Atom} → ClockAt T ρ κ → ClockAt T ρ μ → κ ≡ μ

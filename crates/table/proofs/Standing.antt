@@ -7,12 +7,14 @@ use Prim.Native.Nat.{ℕ, zero, suc, _<_}
 use Rattle.refusal.specs.Heading.{count}
 use Rattle.meaning.specs.Syntax.{Bexp, Seq, Prop, Clock, free, on}
 use Rattle.meaning.specs.Pairs.{Atom}
-use Rattle.table.specs.Trees.{BooleanAt, b-const, b-sig, b-risen, b-fallen, b-not, b-and, b-or, SequenceAt, s-one, s-cat, s-fuse, s-alt, s-empty, s-plus, s-clock, PropertyAt, p-strong, p-weak, p-neg, p-either, p-both, p-imp, p-next, p-until, p-clock, ClockAt, c-free, c-on}
+use Rattle.table.specs.Trees.{BooleanAt, b-const, b-sig, b-risen, b-fallen, b-not, b-and, b-or, SequenceAt, s-one, s-cat, s-fuse, s-alt, s-empty, s-plus, s-clock, s-repeated, s-delayed, s-goto, s-nonconsecutive, PropertyAt, p-strong, p-weak, p-neg, p-either, p-both, p-imp, p-next, p-until, p-clock, p-implies-next, p-followed, p-followed-next, p-always, p-eventually, p-strong-until, p-strong-next, ClockAt, c-free, c-on}
 use Rattle.nodes.specs.declared.Node.{Node}
 use Rattle.nodes.specs.declared.Node.the-variants.{Boolean, Sequence, Property}
 use Rattle.nodes.specs.declared.BooleanOp.the-variants.{Constant, Signal, Not, And, Or, Risen, Fallen}
-use Rattle.nodes.specs.declared.SequenceOp.the-variants.{Letter, Then, Fused, Either, Empty, Repeat, Clocked}
-use Rattle.nodes.specs.declared.PropertyOp.the-variants.{Strong, Weak, Negated, AnyOf, BothOf, Implies, Next, Until, Ticked}
+use Rattle.nodes.specs.declared.SequenceOp.the-variants.{Letter, Then, Fused, Either, Empty, Repeat, Clocked, Derived}
+use Rattle.nodes.specs.declared.PropertyOp.the-variants.{Strong, Weak, Negated, AnyOf, BothOf, Implies, Next, Until, Ticked, Defined}
+use Rattle.nodes.specs.declared.DerivedSequence.the-variants.{Repeated, Delayed, Goto, Nonconsecutive}
+use Rattle.nodes.specs.declared.DerivedProperty.the-variants.{ImpliesNext, Followed, FollowedNext, Always, Eventually, StrongUntil, StrongNext}
 use Rattle.nodes.specs.Operators.{boolean, sequence, property}
 use Rattle.nodes.specs.Nodes.{sortAt, nodeAt, WellFormed}
 use Rattle.nodes.specs.NodeClock.{Ref, freeR, onR}
@@ -64,6 +66,10 @@ module _ (s : List ℕ) (n : ℕ) (fit : (k : ℕ) → k < n → WellFormed s k)
       go ih (Sequence (Empty x)) q f z = (_, s-empty q (ih x f .1))
       go ih (Sequence (Repeat x)) q f z = (_, s-plus q (ih x f .1))
       go ih (Sequence (Clocked c x)) q f z = (_, s-clock q (bool k h c (f .0) .1) (ih x (f .1) .1))
+      go ih (Sequence (Derived (Repeated x i j))) q f z = (_, s-repeated q (ih x f .1))
+      go ih (Sequence (Derived (Delayed x y i j))) q f z = (_, s-delayed q (ih x (f .0) .1) (ih y (f .1) .1))
+      go ih (Sequence (Derived (Goto x i))) q f z = (_, s-goto q (bool k h x f .1))
+      go ih (Sequence (Derived (Nonconsecutive x i))) q f z = (_, s-nonconsecutive q (bool k h x f .1))
       go ih (Boolean o) q f z = absurd (let w : ⊥ = omega arith in w)
       go ih (Property o) q f z = absurd (let w : ⊥ = omega arith in w)
 
@@ -85,6 +91,13 @@ module _ (s : List ℕ) (n : ℕ) (fit : (k : ℕ) → k < n → WellFormed s k)
       go ih (Property (Next x)) q f z = (_, p-next q (ih x f .1))
       go ih (Property (Until x y)) q f z = (_, p-until q (ih x (f .0) .1) (ih y (f .1) .1))
       go ih (Property (Ticked c x)) q f z = (_, p-clock q (bool k h c (f .0) .1) (ih x (f .1) .1))
+      go ih (Property (Defined (ImpliesNext x y))) q f z = (_, p-implies-next q (seq x (f .0) .1) (ih y (f .1) .1))
+      go ih (Property (Defined (Followed x y))) q f z = (_, p-followed q (seq x (f .0) .1) (ih y (f .1) .1))
+      go ih (Property (Defined (FollowedNext x y))) q f z = (_, p-followed-next q (seq x (f .0) .1) (ih y (f .1) .1))
+      go ih (Property (Defined (Always x))) q f z = (_, p-always q (ih x f .1))
+      go ih (Property (Defined (Eventually x))) q f z = (_, p-eventually q (ih x f .1))
+      go ih (Property (Defined (StrongUntil x y))) q f z = (_, p-strong-until q (ih x (f .0) .1) (ih y (f .1) .1))
+      go ih (Property (Defined (StrongNext x))) q f z = (_, p-strong-next q (ih x f .1))
       go ih (Boolean o) q f z = absurd (let w : ⊥ = omega arith in w)
       go ih (Sequence o) q f z = absurd (let w : ⊥ = omega arith in w)
 

@@ -1,4 +1,4 @@
--- The theorems of checking a table. Assumes nothing.
+-- The theorems of checking a table, where the versions are 1 to `newest`. Assumes nothing.
 use native.Mathlib.Omega.{arith}
 use mathlib.Core.Path.{_≡_, refl}
 use mathlib.Core.Logic.{_⊎_, ⊎-elim}
@@ -9,6 +9,7 @@ use Rattle.refusal.specs.Heading.{count}
 use Rattle.refusal.proofs.Unique.{answers-unique}
 use Rattle.meaning.specs.Parts.{Tree, seq, prop, Within}
 use Rattle.meaning.specs.Syntax.{Bexp, Seq, Prop, strong, weak, implies, Clock, free}
+use Rattle.derived.specs.Derived.{impliesNext, followed, followedNext}
 use Rattle.meaning.specs.Meaning.{Topped, Accepted}
 use Rattle.meaning.specs.Pairs.{Atom, reading}
 use Rattle.meaning.proofs.Entering.{AcceptedTree, within-accepted}
@@ -16,25 +17,25 @@ use Rattle.nodes.specs.declared.Node.{Node}
 use Rattle.nodes.specs.Operators.{boolean, sequence, property}
 use Rattle.nodes.specs.Nodes.{sortAt, nodeAt, root}
 use Rattle.nodes.specs.NodeClock.{Ref, ClockOf, c-root, c-part}
-use Rattle.table.specs.Trees.{BooleanAt, SequenceAt, PropertyAt, p-strong, p-weak, p-imp, TreeAt, t-seq, t-prop, ClockAt}
-use Rattle.table.specs.Check.{Asks, by-strong, by-weak, by-implies, Checks, refusals}
-use Rattle.table.specs.Computed.{checked}
+use Rattle.table.specs.Trees.{BooleanAt, SequenceAt, PropertyAt, p-strong, p-weak, p-imp, p-implies-next, p-followed, p-followed-next, TreeAt, t-seq, t-prop, ClockAt}
+use Rattle.table.specs.Check.{Asks, by-strong, by-weak, by-implies, by-implies-next, by-followed, by-followed-next, ChecksTo, refusalsTo}
+use Rattle.table.specs.Computed.{checkedTo}
 use Rattle.nodes.proofs.Built.{Built}
 use Rattle.table.proofs.Reading.{uniqueB, uniqueS, uniqueP, uniqueC}
-use Rattle.nodes.proofs.Shapes.{down}
+use Rattle.nodes.proofs.Shapes.{Suits, down}
 use Rattle.table.proofs.Standing.{boolean-in, sequence-in, property-in, clock-in}
 use Rattle.table.proofs.Topping.{accepted-at}
 use Rattle.nodes.proofs.Clocking.{clock-exists, clock-unique, clock-inside, clock-boolean}
 use Rattle.nodes.proofs.Placing.{part-sort}
 use Rattle.table.proofs.Within.{tree-unique, read-under}
-use Rattle.table.proofs.Checking.{checks, sound, hollow-one, sorts, table-singles}
+use Rattle.table.proofs.CheckingTo.{checks, sound, hollow-one, sorts, table-singles}
 
 -- every table has one verdict
-pub exists : (s : List ℕ) → (v : Verdict) × Checks s v
-exists s = (checked s, checks s (checked s) refl)
+pub exists : (newest : ℕ) (s : List ℕ) → (v : Verdict) × ChecksTo newest s v
+exists newest s = (checkedTo newest s, checks s newest (checkedTo newest s) refl)
 
-pub unique : (s : List ℕ) (u v : Verdict) → Checks s u → Checks s v → u ≡ v
-unique s u v a b = answers-unique (refusals s) (table-singles s) u v a b
+pub unique : (newest : ℕ) (s : List ℕ) (u v : Verdict) → ChecksTo newest s u → ChecksTo newest s v → u ≡ v
+unique newest s u v a b = answers-unique (refusalsTo newest s) (table-singles newest s) u v a b
 
 -- R holds of one thing alone
 abbrev pub ExactlyOne : (A : Type 0) → (A → Type 0) → Type 0
@@ -68,22 +69,28 @@ module _ (s : List ℕ) (ok : Built s) where
       (λ j σ g. (tree-at j (clocked-in g) (clocked-sort g), clock-in s ok σ (clock-boolean s ok g)))
       t d c e f
 
+  -- the right side of an implication stands for a property
+  right : (k : ℕ) → k < count s → (y : ℕ) → Suits s k property y → (P : Prop Atom) × PropertyAt (nodeAt s) y P
+  right k h y j = property-in s (count s) (ok .fit) (count s) y (let l = j .0 in omega arith) (let l = j .0 in omega arith) (j .1)
+
   -- a node that asks for the sequence r stands for a property that is accepted only if r is topped
-  asking : (k : ℕ) → k < count s → {v : Node} {x : ℕ} → Asks v x → nodeAt s k ≡ v → {r : Seq Atom} → SequenceAt (nodeAt s) x r
-      → (Q : Prop Atom) × PropertyAt (nodeAt s) k Q × ((κ : Clock Atom) → Accepted reading κ Q → Topped reading κ r)
+  asking : (k : ℕ) → k < count s → {v : Node} {x : ℕ} {f : Seq Atom → Seq Atom} → Asks v x f → nodeAt s k ≡ v → {r : Seq Atom} → SequenceAt (nodeAt s) x r
+      → (Q : Prop Atom) × PropertyAt (nodeAt s) k Q × ((κ : Clock Atom) → Accepted reading κ Q → Topped reading κ (f r))
   unfolding Accepted
   asking k h by-strong e {r} d = (strong r, p-strong e d, λ κ a. a)
   asking k h by-weak e {r} d = (weak r, p-weak e d, λ κ a. a)
-  asking k h (by-implies {y = y}) e {r} d =
-      let (g, j) = down s k (ok .fit k h) e in
-      let (P, f) = property-in s (count s) (ok .fit) (count s) y (omega arith) (omega arith) (j .1) in
-      (implies r P, p-imp e d f, λ κ a. a .0)
+  asking k h (by-implies {y = y}) e {r} d = let (P, f) = right k h y (down s k (ok .fit k h) e .1) in (implies r P, p-imp e d f, λ κ a. a .0)
+  asking k h (by-implies-next {y = y}) e {r} d =
+      let (P, f) = right k h y (down s k (ok .fit k h) e .1) in (impliesNext r P, p-implies-next e d f, λ κ a. a .0)
+  asking k h (by-followed {y = y}) e {r} d = let (P, f) = right k h y (down s k (ok .fit k h) e .1) in (followed r P, p-followed e d f, λ κ a. a .0)
+  asking k h (by-followed-next {y = y}) e {r} d =
+      let (P, f) = right k h y (down s k (ok .fit k h) e .1) in (followedNext r P, p-followed-next e d f, λ κ a. a .0)
 
 -- ---- of a table that is accepted
 
-module _ (s : List ℕ) (v : Verdict) (c : Checks s v) (z : v .number ≡ 0) where
+module _ (newest : ℕ) (s : List ℕ) (v : Verdict) (c : ChecksTo newest s v) (z : v .number ≡ 0) where
   ok : Built s
-  ok = sound s v c z .formed
+  ok = sound newest s v c z .formed
 
   -- each node stands for exactly one tree, of its sort
   module _ (k : ℕ) (h : k < count s) where
@@ -115,21 +122,21 @@ module _ (s : List ℕ) (v : Verdict) (c : Checks s v) (z : v .number ≡ 0) whe
 
   -- a property at the root is accepted by the meaning
   pub accepted-root : (P : Prop Atom) → PropertyAt (nodeAt s) (root s) P → Accepted reading free P
-  accepted-root P d = accepted-at s (count s) (ok .fit) (sound s v c z .solid) d (in-root s ok) free
+  accepted-root P d = accepted-at s (count s) (ok .fit) (sound newest s v c z .solid) d (in-root s ok) free
 
 -- ---- and of one that is refused with 9
 
-refused-tree : (s : List ℕ) (v : Verdict) → Checks s v → v .number ≡ 9 → (t : Tree Atom) → TreeAt (nodeAt s) (root s) t → ¬ AcceptedTree reading free t
-refused-tree s v c z t d a =
-    let (ok, h) = hollow-one s v c z in
+refused-tree : (newest : ℕ) (s : List ℕ) (v : Verdict) → ChecksTo newest s v → v .number ≡ 9 → (t : Tree Atom) → TreeAt (nodeAt s) (root s) t → ¬ AcceptedTree reading free t
+refused-tree newest s v c z t d a =
+    let (ok, h) = hollow-one newest s v c z in
     let (Q, f, topped) = asking s ok (v .node) (clocked-in s ok (h .clocked)) (h .asks) refl (h .stands) in
     let w = read-there s ok t d (v .node) (h .ref) (h .clock) (prop Q) (h .clocked) (h .means) (t-prop f) in
     h .never (topped (h .clock) (within-accepted reading w a))
 
 -- its root is no sequence,
-pub refused-sequence : (s : List ℕ) (v : Verdict) → Checks s v → v .number ≡ 9 → (r : Seq Atom) → ¬ SequenceAt (nodeAt s) (root s) r
-refused-sequence s v c z r d = refused-tree s v c z (seq r) (t-seq d) tt
+pub refused-sequence : (newest : ℕ) (s : List ℕ) (v : Verdict) → ChecksTo newest s v → v .number ≡ 9 → (r : Seq Atom) → ¬ SequenceAt (nodeAt s) (root s) r
+refused-sequence newest s v c z r d = refused-tree newest s v c z (seq r) (t-seq d) tt
 
 -- and the property at its root is not accepted by the meaning
-pub refused-root : (s : List ℕ) (v : Verdict) → Checks s v → v .number ≡ 9 → (P : Prop Atom) → PropertyAt (nodeAt s) (root s) P → ¬ Accepted reading free P
-refused-root s v c z P d a = refused-tree s v c z (prop P) (t-prop d) a
+pub refused-root : (newest : ℕ) (s : List ℕ) (v : Verdict) → ChecksTo newest s v → v .number ≡ 9 → (P : Prop Atom) → PropertyAt (nodeAt s) (root s) P → ¬ Accepted reading free P
+refused-root newest s v c z P d a = refused-tree newest s v c z (prop P) (t-prop d) a

@@ -14,8 +14,9 @@ use Rattle.nodes.specs.declared.BooleanOp.the-variants.{Risen, Fallen}
 use Rattle.nodes.specs.Operators.{operators, lookup, rowOf, bytesOf, booleanBytes}
 use Rattle.nodes.specs.Nodes.{nodeAt, WellFormed}
 use Rattle.nodes.proofs.Coded.{coded-as}
+use Rattle.nodes.proofs.Based.{not-derived, not-defined}
 use Rattle.nodes.proofs.Shapes.{Suits, down}
-use Rattle.table.specs.Trees.{BooleanAt, b-const, b-sig, b-risen, b-fallen, b-not, b-and, b-or, SequenceAt, s-one, s-cat, s-fuse, s-alt, s-empty, s-plus, s-clock, PropertyAt, p-strong, p-weak, p-neg, p-either, p-both, p-imp, p-next, p-until, p-clock}
+use Rattle.table.specs.Trees.{BooleanAt, b-const, b-sig, b-risen, b-fallen, b-not, b-and, b-or, SequenceAt, s-one, s-cat, s-fuse, s-alt, s-empty, s-plus, s-clock, s-repeated, s-delayed, s-goto, s-nonconsecutive, PropertyAt, p-strong, p-weak, p-neg, p-either, p-both, p-imp, p-next, p-until, p-clock, p-implies-next, p-followed, p-followed-next, p-always, p-eventually, p-strong-until, p-strong-next}
 
 -- t is what f makes of some tree
 abbrev Made : {X Y : Type 0} → (X → Y) → Y → Type 0
@@ -46,6 +47,9 @@ module _ (s : List ℕ) (n : ℕ) (fit : (k : ℕ) → k < n → WellFormed s k)
   unfolding rowOf lookup operators bytesOf booleanBytes
   no-fallen h e = let l = early h e in omega arith
 
+  old : version s ≤ 2
+  old = let e = first in omega arith
+
   -- an operand is one of the nodes too
   below : {k x sort : ℕ} → k < n → Suits s k sort x → x < n
   below h f = let l = f .0 in omega arith
@@ -75,6 +79,10 @@ module _ (s : List ℕ) (n : ℕ) (fit : (k : ℕ) → k < n → WellFormed s k)
   signals-sequence {k} (s-plus e p) h = let f = down s k (fit k h) e in over signalsS plus plus (λ a. refl) (signals-sequence p (below h f))
   signals-sequence {k} (s-clock e p q) h =
       let (f, g) = down s k (fit k h) e in overTwo signalsS clocked clocked (λ a b. refl) (signals-boolean p (below h f)) (signals-sequence q (below h g))
+  signals-sequence {k} (s-repeated e p) h = absurd (not-derived s k (fit k h) old e)
+  signals-sequence {k} (s-delayed e p q) h = absurd (not-derived s k (fit k h) old e)
+  signals-sequence {k} (s-goto e p) h = absurd (not-derived s k (fit k h) old e)
+  signals-sequence {k} (s-nonconsecutive e p) h = absurd (not-derived s k (fit k h) old e)
 
   pub signals-property : {k : ℕ} {P : Prop Atom} → PropertyAt (nodeAt s) k P → k < n → (Q : Prop ℕ) × (P ≡ signalsP Q)
   unfolding renameP
@@ -92,3 +100,10 @@ module _ (s : List ℕ) (n : ℕ) (fit : (k : ℕ) → k < n → WellFormed s k)
       let (f, g) = down s k (fit k h) e in overTwo signalsP until until (λ a b. refl) (signals-property p (below h f)) (signals-property q (below h g))
   signals-property {k} (p-clock e p q) h =
       let (f, g) = down s k (fit k h) e in overTwo signalsP under under (λ a b. refl) (signals-boolean p (below h f)) (signals-property q (below h g))
+  signals-property {k} (p-implies-next e p q) h = absurd (not-defined s k (fit k h) old e)
+  signals-property {k} (p-followed e p q) h = absurd (not-defined s k (fit k h) old e)
+  signals-property {k} (p-followed-next e p q) h = absurd (not-defined s k (fit k h) old e)
+  signals-property {k} (p-always e p) h = absurd (not-defined s k (fit k h) old e)
+  signals-property {k} (p-eventually e p) h = absurd (not-defined s k (fit k h) old e)
+  signals-property {k} (p-strong-until e p q) h = absurd (not-defined s k (fit k h) old e)
+  signals-property {k} (p-strong-next e p) h = absurd (not-defined s k (fit k h) old e)

@@ -2,9 +2,9 @@
 // and that the tests say what the page says, is stated and proved here.
 use faults::formed::first_unfit;
 use faults::placed::first_astray;
-use faults::topped::first_hollow;
+use hollows::first_hollow;
+use nodes::operators::BASE;
 use nodes::operators::BOOLEAN;
-use nodes::operators::NEWEST;
 use nodes::sort_at;
 use refusal::Verdict;
 use refusal::wide;
@@ -12,7 +12,7 @@ ghost use mathlib.Core.Path.{_≡_};
 ghost use Prim.Native.Nat.{_+_, _*_, _≤_};
 ghost use lib.ListN.{length};
 ghost use Rattle.refusal.specs.Computed.{firstCase};
-ghost use Rattle.table.specs.Check.{Checks};
+ghost use Rattle.table.specs.Check.{Checks, ChecksTo};
 ghost use Rattle.table.specs.Computed.{nodeCases};
 
 // Refusals 6 to 9 of the n nodes.
@@ -38,11 +38,11 @@ fn check_nodes(b: &[u8], n: usize) -> Verdict
     Verdict { number: 0, node: 0 }
 }
 
-// For any bytes: the number and the node of the first refusal of 1 to 9 that applies, and 0 and 0 where none does.
-pub fn check(b: &[u8]) -> Verdict
-    ensures { λ r. ⌜ Checks (now (b .entry)) r ⌝ }
+// For any bytes: the number and the node of the first refusal of 1 to 9 that applies, and 0 and 0 where none does. The versions are 1 to the newest.
+pub fn check_to(b: &[u8], newest: usize) -> Verdict
+    ensures { λ r. ⌜ ChecksTo newest (now (b .entry)) r ⌝ }
 {
-    let heading = refusal::heading(b, 84, NEWEST);
+    let heading = refusal::heading(b, 84, newest);
     if heading.number != 0 {
         return heading;
     }
@@ -57,4 +57,11 @@ pub fn check(b: &[u8]) -> Verdict
         return Verdict { number: 5, node: 0 };
     }
     check_nodes(b, n)
+}
+
+// Of a table with base operators alone, as the engines read it.
+pub fn check(b: &[u8]) -> Verdict
+    ensures { λ r. ⌜ Checks (now (b .entry)) r ⌝ }
+{
+    check_to(b, BASE)
 }

@@ -14,11 +14,11 @@ use Rattle.nodes.proofs.decode.Statement.{statement}
 use Rattle.nodes.proofs.decode.Tie as tie
 
 -- the node of the bytes n, whose operator is op
-keyed : (n : Raw) (op : ℕ) → n .op ≡ op → lookup (λ e. e .make (n .x) (n .y)) (Boolean (Constant 0)) operators op ≡ nodeOf n
+keyed : (n : Raw) (op : ℕ) → n .op ≡ op → lookup (λ e. e .make (n .x) (n .y) (n .fourth)) (Boolean (Constant 0)) operators op ≡ nodeOf n
 unfolding nodeOf
 keyed n op e = rw (← e)
 
-none : tie.Need-returns-24
+none : tie.Need-returns-35
 unfolding nodeOf operators
 none c = decodes _ _ (sym (past _ (Boolean (Constant 0)) (Unit {0}) operators _ (c .match .rest) .0))
 
@@ -27,6 +27,7 @@ unfolding lookup operators
 decode-spec =
     tie.close
     (tie.spec
+    (λ c. search needs)
     (λ c. search needs)
     (λ c. search needs)
     (λ c. decodes _ _ (keyed _ 0 (c .match .keys1)))
@@ -43,13 +44,24 @@ decode-spec =
     (λ c. decodes _ _ (keyed _ 20 (c .match .keys12)))
     (λ c. decodes _ _ (keyed _ 21 (c .match .keys13)))
     (λ c. decodes _ _ (keyed _ 22 (c .match .keys14)))
-    (λ c. decodes _ _ (keyed _ 32 (c .match .keys15)))
-    (λ c. decodes _ _ (keyed _ 33 (c .match .keys16)))
-    (λ c. decodes _ _ (keyed _ 34 (c .match .keys17)))
-    (λ c. decodes _ _ (keyed _ 35 (c .match .keys18)))
-    (λ c. decodes _ _ (keyed _ 36 (c .match .keys19)))
-    (λ c. decodes _ _ (keyed _ 37 (c .match .keys20)))
-    (λ c. decodes _ _ (keyed _ 38 (c .match .keys21)))
-    (λ c. decodes _ _ (keyed _ 39 (c .match .keys22)))
-    (λ c. decodes _ _ (keyed _ 40 (c .match .keys23)))
+    (λ c. decodes _ _ (keyed _ 23 (c .match .keys15)))
+    (λ c. decodes _ _ (keyed _ 24 (c .match .keys16)))
+    (λ c. decodes _ _ (keyed _ 25 (c .match .keys17)))
+    (λ c. decodes _ _ (keyed _ 26 (c .match .keys18)))
+    (λ c. decodes _ _ (keyed _ 32 (c .match .keys19)))
+    (λ c. decodes _ _ (keyed _ 33 (c .match .keys20)))
+    (λ c. decodes _ _ (keyed _ 34 (c .match .keys21)))
+    (λ c. decodes _ _ (keyed _ 35 (c .match .keys22)))
+    (λ c. decodes _ _ (keyed _ 36 (c .match .keys23)))
+    (λ c. decodes _ _ (keyed _ 37 (c .match .keys24)))
+    (λ c. decodes _ _ (keyed _ 38 (c .match .keys25)))
+    (λ c. decodes _ _ (keyed _ 39 (c .match .keys26)))
+    (λ c. decodes _ _ (keyed _ 40 (c .match .keys27)))
+    (λ c. decodes _ _ (keyed _ 41 (c .match .keys28)))
+    (λ c. decodes _ _ (keyed _ 42 (c .match .keys29)))
+    (λ c. decodes _ _ (keyed _ 43 (c .match .keys30)))
+    (λ c. decodes _ _ (keyed _ 44 (c .match .keys31)))
+    (λ c. decodes _ _ (keyed _ 45 (c .match .keys32)))
+    (λ c. decodes _ _ (keyed _ 46 (c .match .keys33)))
+    (λ c. decodes _ _ (keyed _ 47 (c .match .keys34)))
     none)

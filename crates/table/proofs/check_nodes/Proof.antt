@@ -9,7 +9,7 @@ use lib.ListN.{drop}
 use Rattle.refusal.specs.Computed.{first, firstCase, refused, accepted}
 use Rattle.refusal.proofs.Cases.{skip, stop, through}
 use Rattle.nodes.specs.Nodes.{sortAt}
-use Rattle.faults.specs.Flags.{hollow}
+use Rattle.hollows.specs.Flags.{hollow}
 use Rattle.faults.specs.Computed.{unfit, astray}
 use Rattle.table.specs.Computed.{nodeCases}
 use Rattle.table.proofs.check_nodes.Statement.{statement}

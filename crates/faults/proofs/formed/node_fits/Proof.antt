@@ -11,7 +11,7 @@ use Rattle.nodes.specs.declared.Raw.{Raw}
 use Rattle.nodes.specs.declared.operators.Row.{Row}
 use Rattle.nodes.specs.Operators.{rowOf, none}
 use Rattle.nodes.specs.Nodes.{rawAt, sortAt}
-use Rattle.faults.specs.Computed.{operandFits, isKnownIn, nodeFits}
+use Rattle.faults.specs.Computed.{operandFits, fourthFits, isKnownIn, nodeFits}
 use Rattle.faults.proofs.formed.node_fits.Statement.{statement}
 use Rattle.faults.proofs.formed.node_fits.Tie as tie
 
@@ -19,7 +19,7 @@ use Rattle.faults.proofs.formed.node_fits.Tie as tie
 unfoldable fitsAs : List ℕ → ℕ → ℕ → Raw → Row → Bool
 fitsAs s v k n r =
     not (eqb (r .own) none)
-    && (isKnownIn r v && (eqb (n .fourth) 0 && (operandFits s k (r .x) (r .limit) (n .x) && operandFits s k (r .y) 1 (n .y))))
+    && (isKnownIn r v && (fourthFits (r .fourth) (n .fourth) && (operandFits s k (r .x) (r .limit) (n .x) && operandFits s k (r .y) 1 (n .y))))
 
 module _ (s : List ℕ) (v k : ℕ) (n : Raw) (en : n ≡ rawAt s k) (r : Row) (er : r ≡ rowOf (n .op)) where
   known : nodeFits s v k ≡ fitsAs s v k n r
@@ -37,18 +37,19 @@ module _ (s : List ℕ) (v k : ℕ) (n : Raw) (en : n ≡ rawAt s k) (r : Row) (
       early f = simp (known, ne-eqb _ _ h, ← et, not-true t f)
 
       module _ (f : not t ≡ false) where
-        fourth : (n .fourth ≡ 0 → ⊥) → false ≡ nodeFits s v k
-        unfolding fitsAs
-        fourth z = simp (known, ne-eqb _ _ h, ← et, not-false t f, ne-eqb _ _ z)
-
-        module _ (z : n .fourth ≡ 0) (x : Bool) (ex : x ≡ operandFits s k (r .x) (r .limit) (n .x)) where
-          first : x ≡ false → false ≡ nodeFits s v k
+        module _ (q : Bool) (eq : q ≡ fourthFits (r .fourth) (n .fourth)) where
+          fourth : not q ≡ true → false ≡ nodeFits s v k
           unfolding fitsAs
-          first g = simp (known, ne-eqb _ _ h, ← et, not-false t f, eq-eqb _ _ z, ← ex, g)
+          fourth z = simp (known, ne-eqb _ _ h, ← et, not-false t f, ← eq, not-true q z)
 
-          second : x ≡ true → (y : Bool) → y ≡ operandFits s k (r .y) 1 (n .y) → y ≡ nodeFits s v k
-          unfolding fitsAs
-          second g y e = simp (known, ne-eqb _ _ h, ← et, not-false t f, eq-eqb _ _ z, ← ex, g, e)
+          module _ (z : not q ≡ false) (x : Bool) (ex : x ≡ operandFits s k (r .x) (r .limit) (n .x)) where
+            first : x ≡ false → false ≡ nodeFits s v k
+            unfolding fitsAs
+            first g = simp (known, ne-eqb _ _ h, ← et, not-false t f, ← eq, not-false q z, ← ex, g)
+
+            second : x ≡ true → (y : Bool) → y ≡ operandFits s k (r .y) 1 (n .y) → y ≡ nodeFits s v k
+            unfolding fitsAs
+            second g y e = simp (known, ne-eqb _ _ h, ← et, not-false t f, ← eq, not-false q z, ← ex, g, e)
 
 pub node-fits-spec : {M : Type 1} → statement M
 node-fits-spec =
@@ -59,6 +60,7 @@ node-fits-spec =
     (λ c. search unknown)
     (λ c κs. search needs)
     (λ c. search early)
+    (λ c κs. search needs)
     (λ c. search fourth)
     (λ c κs. search needs)
     (λ c κs. search needs)

@@ -1,8 +1,8 @@
--- `faults::topped::node_tops` meets its contract. Assumes nothing.
+-- `hollows::node_tops` meets its contract. Assumes nothing.
 use borrow.Author.Needs.{needs}
-use Rattle.faults.specs.Flags.{nodeTops}
-use Rattle.faults.proofs.topped.node_tops.Statement.{statement}
-use Rattle.faults.proofs.topped.node_tops.Tie as tie
+use Rattle.hollows.specs.Flags.{nodeTops}
+use Rattle.hollows.proofs.node_tops.Statement.{statement}
+use Rattle.hollows.proofs.node_tops.Tie as tie
 
 pub node-tops-spec : {M : Type 1} → statement M
 unfolding nodeTops

@@ -1,14 +1,15 @@
--- `faults::topped::sequence_tops` meets its contract: one law an arm, and `search` finds its facts. Assumes nothing.
+-- `hollows::sequence_tops` meets its contract: one law an arm, and `search` finds its facts. Assumes nothing.
 use borrow.Author.Needs.{needs}
 use mathlib.Core.Path.{_≡_}
 use mathlib.Core.Bool.{true, false}
 use Prim.Native.Nat.{ℕ}
-use Rattle.faults.specs.declared.topped.Tops.{Tops}
+use Rattle.hollows.specs.declared.Tops.{Tops}
 use Rattle.nodes.specs.declared.SequenceOp.{SequenceOp}
-use Rattle.nodes.specs.declared.SequenceOp.the-variants.{Letter, Then, Fused, Either, Empty, Repeat, Clocked}
-use Rattle.faults.specs.Flags.{flags, thenTops, fusedTops, eitherTops, sequenceTops}
-use Rattle.faults.proofs.topped.sequence_tops.Statement.{statement}
-use Rattle.faults.proofs.topped.sequence_tops.Tie as tie
+use Rattle.nodes.specs.declared.SequenceOp.the-variants.{Letter, Then, Fused, Either, Empty, Repeat, Clocked, Derived}
+use Rattle.nodes.specs.declared.DerivedSequence.{DerivedSequence}
+use Rattle.hollows.specs.Flags.{flags, thenTops, fusedTops, eitherTops, derivedTops, sequenceTops}
+use Rattle.hollows.proofs.sequence_tops.Statement.{statement}
+use Rattle.hollows.proofs.sequence_tops.Tie as tie
 
 module _ (q : SequenceOp) (x y : Tops) where
   letter : (i : ℕ) → q ≡ Letter i → flags false true ≡ sequenceTops q x y
@@ -39,6 +40,10 @@ module _ (q : SequenceOp) (x y : Tops) where
   unfolding sequenceTops
   clocked c j e = rw e
 
+  derived : (o : DerivedSequence) → q ≡ Derived o → (t : Tops) → t ≡ derivedTops o x y → t ≡ sequenceTops q x y
+  unfolding sequenceTops
+  derived o e t f = rw (e, f)
+
 pub sequence-tops-spec : {M : Type 1} → statement M
 sequence-tops-spec =
     tie.close
@@ -53,10 +58,13 @@ sequence-tops-spec =
     (λ c. search needs)
     (λ c. search needs)
     (λ c. search needs)
+    (λ c. search needs)
+    (λ c κs. search needs)
     (λ c. search letter)
     (λ c. search thens)
     (λ c. search fuseds)
     (λ c. search eithers)
     (λ c. search empty)
     (λ c. search repeat)
-    (λ c. search clocked))
+    (λ c. search clocked)
+    (λ c. search derived))

@@ -1,5 +1,7 @@
 // Refusal 9: the lowest strong, weak or |-> node over a sequence that matches no k letters ⊤, k at least 1. Two flags a sequence are enough, and
 // no clock changes them: what they say of matching is proved in `table`.
+use nodes::DerivedProperty;
+use nodes::DerivedSequence;
 use nodes::Node;
 use nodes::PropertyOp;
 use nodes::SequenceOp;
@@ -10,7 +12,7 @@ ghost use mathlib.Core.Path.{_≡_};
 ghost use Prim.Native.Nat.{_+_, _*_, _≤_};
 ghost use lib.ListN.{length};
 ghost use Rattle.refusal.specs.Computed.{first};
-ghost use Rattle.faults.specs.Flags.{thenTops, fusedTops, eitherTops, sequenceTops, nodeTops, hollowProperty, hollowNode, hollow};
+ghost use Rattle.hollows.specs.Flags.{thenTops, fusedTops, eitherTops, rangeTops, laterTops, delayTops, derivedTops, sequenceTops, nodeTops, hollowDerived, hollowProperty, hollowNode, hollow};
 
 // What a sequence matches of a word of letters ⊤ alone: no letter; some letters, one or more.
 pub struct Tops {
@@ -63,6 +65,59 @@ fn either_tops(a: Tops, b: Tops) -> Tops
     }
 }
 
+// Of x[*m:n].
+fn range_tops(m: usize, n: usize, x: Tops) -> Tops
+    ensures { λ r. ⌜ r ≡ rangeTops m n x ⌝ }
+{
+    if m == 0 {
+        Tops {
+            empty: true,
+            some: (n != 0) & x.some,
+        }
+    } else {
+        x
+    }
+}
+
+// Of x ##1 1[*m:n] ##1 y.
+fn later_tops(m: usize, n: usize, x: Tops, y: Tops) -> Tops
+    ensures { λ r. ⌜ r ≡ laterTops m n x y ⌝ }
+{
+    then_tops(then_tops(x, range_tops(m, n, A_LETTER)), y)
+}
+
+// Of x ##[m:n] y.
+fn delay_tops(m: usize, n: usize, x: Tops, y: Tops) -> Tops
+    ensures { λ r. ⌜ r ≡ delayTops m n x y ⌝ }
+{
+    let f = fused_tops(x, y);
+    if n == 0 {
+        return f;
+    }
+    if m == 0 {
+        return either_tops(f, later_tops(0, n - 1, x, y));
+    }
+    later_tops(m - 1, n - 1, x, y)
+}
+
+// Of a derived sequence, as it is expanded, at any counts.
+fn derived_tops(q: DerivedSequence, x: Tops, y: Tops) -> Tops
+    ensures { λ r. ⌜ r ≡ derivedTops q x y ⌝ }
+{
+    match q {
+        DerivedSequence::Repeated(_, m, n) => range_tops(m, n, x),
+        DerivedSequence::Delayed(_, _, m, n) => delay_tops(m, n, x, y),
+        DerivedSequence::Goto(_, m) => Tops {
+            empty: m == 0,
+            some: m != 0,
+        },
+        DerivedSequence::Nonconsecutive(_, m) => Tops {
+            empty: m == 0,
+            some: true,
+        },
+    }
+}
+
 // Of a sequence, by its kind and what its operands x and y match.
 fn sequence_tops(q: SequenceOp, x: Tops, y: Tops) -> Tops
     ensures { λ r. ⌜ r ≡ sequenceTops q x y ⌝ }
@@ -75,6 +130,7 @@ fn sequence_tops(q: SequenceOp, x: Tops, y: Tops) -> Tops
         SequenceOp::Empty(_) => NO_LETTER,
         SequenceOp::Repeat(_) => x,
         SequenceOp::Clocked(_, _) => y,
+        SequenceOp::Derived(d) => derived_tops(d, x, y),
     }
 }
 
@@ -86,6 +142,21 @@ fn node_tops(v: Node, x: Tops, y: Tops) -> Tops
         Node::Boolean(_) => NOTHING,
         Node::Sequence(q) => sequence_tops(q, x, y),
         Node::Property(_) => NOTHING,
+    }
+}
+
+// Whether what the derived node is expanded to asks for a match of x, or of x and one letter more, which matches no letters ⊤.
+fn hollow_derived(p: DerivedProperty, x: Tops) -> bool
+    ensures { λ r. ⌜ r ≡ hollowDerived p x ⌝ }
+{
+    match p {
+        DerivedProperty::ImpliesNext(_, _) => !(x.empty | x.some),
+        DerivedProperty::Followed(_, _) => !x.some,
+        DerivedProperty::FollowedNext(_, _) => !(x.empty | x.some),
+        DerivedProperty::Always(_) => false,
+        DerivedProperty::Eventually(_) => false,
+        DerivedProperty::StrongUntil(_, _) => false,
+        DerivedProperty::StrongNext(_) => false,
     }
 }
 
@@ -103,6 +174,7 @@ fn hollow_property(p: PropertyOp, x: Tops) -> bool
         PropertyOp::Next(_) => false,
         PropertyOp::Until(_, _) => false,
         PropertyOp::Ticked(_, _) => false,
+        PropertyOp::Defined(d) => hollow_derived(d, x),
     }
 }
 

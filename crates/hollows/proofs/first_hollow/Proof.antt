@@ -1,4 +1,4 @@
--- `faults::topped::first_hollow` meets its contract: the first k entries are the flags of the nodes below k, nothing is kept after them, and what is
+-- `hollows::first_hollow` meets its contract: the first k entries are the flags of the nodes below k, nothing is kept after them, and what is
 -- looked for from 0 on is what is looked for from k on. Assumes nothing.
 use native.Mathlib.Omega.{arith}
 use mathlib.Core.Path.{_≡_, refl}
@@ -6,10 +6,10 @@ use Prim.Native.Nat.{ℕ, _≤_, _<_, _-_}
 use lib.ListN.{length, take, getD, length-set}
 use Rattle.refusal.specs.Computed.{first}
 use Rattle.refusal.proofs.Firsts.{missed}
-use Rattle.faults.specs.Flags.{nothing, topsBelow, hollow}
-use Rattle.faults.proofs.Keeping.{grown, solid, hollows, still, nothing-kept}
-use Rattle.faults.proofs.topped.first_hollow.Statement.{statement}
-use Rattle.faults.proofs.topped.first_hollow.Tie as tie
+use Rattle.hollows.specs.Flags.{nothing, topsBelow, hollow}
+use Rattle.hollows.proofs.Keeping.{grown, solid, hollows, still, nothing-kept}
+use Rattle.hollows.proofs.first_hollow.Statement.{statement}
+use Rattle.hollows.proofs.first_hollow.Tie as tie
 
 abbrev Inv-loop : tie.InvT-loop
 Inv-loop b n done₀ k₀ done k =

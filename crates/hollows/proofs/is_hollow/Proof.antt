@@ -1,8 +1,8 @@
--- `faults::topped::is_hollow` meets its contract. Assumes nothing.
+-- `hollows::is_hollow` meets its contract. Assumes nothing.
 use borrow.Author.Needs.{needs}
-use Rattle.faults.specs.Flags.{hollowNode}
-use Rattle.faults.proofs.topped.is_hollow.Statement.{statement}
-use Rattle.faults.proofs.topped.is_hollow.Tie as tie
+use Rattle.hollows.specs.Flags.{hollowNode}
+use Rattle.hollows.proofs.is_hollow.Statement.{statement}
+use Rattle.hollows.proofs.is_hollow.Tie as tie
 
 pub is-hollow-spec : {M : Type 1} → statement M
 unfolding hollowNode

@@ -16,12 +16,12 @@ use Rattle.refusal.specs.Computed.{first}
 use Rattle.refusal.proofs.Firsts.{on, found}
 use Rattle.nodes.specs.declared.Raw.{Raw}
 use Rattle.nodes.specs.declared.Node.{Node}
-use Rattle.faults.specs.declared.topped.Tops.{Tops}
+use Rattle.hollows.specs.declared.Tops.{Tops}
 use Rattle.nodes.specs.Operators.{nodeOf, Decodes}
 use Rattle.nodes.specs.Nodes.{rawAt, nodeAt}
-use Rattle.faults.specs.Flags.{nothing, topsAt, nodeTops, topsBelow, hollowNode, hollow}
+use Rattle.hollows.specs.Flags.{nothing, topsAt, nodeTops, topsBelow, hollowNode, hollow}
 use Rattle.nodes.specs.Computed.{namedBy}
 use Rattle.faults.proofs.Counting.{filled}
 
 -- ---- the flags of each node, from those of the nodes below
 
