@@ -10,7 +10,8 @@ use Rattle.nodes.specs.declared.Node.{Node}
 use Rattle.nodes.specs.Operators.{bytes, bytesOf}
 use Rattle.clocks.specs.Computed.{refOf}
 use Rattle.blocks.specs.Blocks.{letterBlock, nextBlock, untilBlock, underBlock}
-use Rattle.blocks.specs.Computed.{blank, blankNode, kindBlock}
+use Rattle.encoding.specs.Encoding.{blank, blankNode}
+use Rattle.blocks.specs.Computed.{kindBlock}
 
 -- ---- a block's node i
 

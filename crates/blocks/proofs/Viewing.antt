@@ -10,7 +10,8 @@ use lib.Dec.{eqb}
 use Rattle.nodes.specs.declared.Raw.{Raw}
 use Rattle.nodes.specs.Operators.{operators, lookup, rowOf, bytes, bytesOf}
 use Rattle.nodes.specs.NodeClock.{Ref, freeR, onR}
-use Rattle.blocks.specs.Blocks.{letterBlock, nextBlock, untilBlock, underBlock, moved, movedNode, movedBlock, blockUnder}
+use Rattle.encoding.specs.Moved.{moved, movedNode}
+use Rattle.blocks.specs.Blocks.{letterBlock, nextBlock, untilBlock, underBlock, movedBlock, blockUnder}
 
 -- a letter, nexttime or until
 abbrev pub listed : ℕ → Bool

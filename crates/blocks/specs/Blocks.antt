@@ -9,7 +9,8 @@ use Rattle.nodes.specs.declared.Node.the-variants.{Boolean, Sequence, Property}
 use Rattle.nodes.specs.declared.BooleanOp.the-variants.{Not, And}
 use Rattle.nodes.specs.declared.SequenceOp.the-variants.{Letter, Then, Either, Empty, Repeat}
 use Rattle.nodes.specs.declared.PropertyOp.the-variants.{Strong, Negated, BothOf, Next, Until}
-use Rattle.nodes.specs.Operators.{none, rowOf, bytes, bytesOf}
+use Rattle.nodes.specs.Operators.{rowOf, bytes, bytesOf}
+use Rattle.encoding.specs.Moved.{movedNode}
 use Rattle.nodes.specs.NodeClock.{Ref, freeR, onR}
 
 -- 1st, 2nd, 3rd, .. node of the block whose 1st is number `at`
@@ -76,18 +77,10 @@ underBlock at c op x y =
 
 -- ν gives the new numbers
 module _ (ν : ℕ → ℕ) where
-  -- a byte that is an operand of a sort, by its new number; any other as it is
-  unfoldable pub moved : ℕ → ℕ → ℕ
-  moved sort v = cond (eqb sort none) v (ν v)
-
-  -- one node with new operand numbers
-  unfoldable pub movedNode : Raw → Raw
-  movedNode r = bytes (r .op) (moved (rowOf (r .op) .x) (r .x)) (moved (rowOf (r .op) .y) (r .y))
-
   -- the block of a node that is no clock node: with no clock, and under c
   unfoldable pub movedBlock : Ref → ℕ → Raw → List Raw
-  movedBlock freeR at r = movedNode r ∷ []
-  movedBlock (onR c) at r = underBlock at (ν c) (r .op) (movedNode r .x) (movedNode r .y)
+  movedBlock freeR at r = movedNode ν r ∷ []
+  movedBlock (onR c) at r = underBlock at (ν c) (r .op) (movedNode ν r .x) (movedNode ν r .y)
 
   -- a clock node has no block
   unfoldable pub blockUnder : Ref → ℕ → Raw → List Raw

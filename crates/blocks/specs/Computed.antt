@@ -2,19 +2,9 @@
 use mathlib.Core.List.{List, [], _∷_}
 use Prim.Native.Nat.{ℕ}
 use Rattle.nodes.specs.declared.Raw.{Raw}
-use Rattle.nodes.specs.declared.Node.{Node}
-use Rattle.nodes.specs.declared.Node.the-variants.{Boolean}
-use Rattle.nodes.specs.declared.BooleanOp.the-variants.{Constant}
-use Rattle.nodes.specs.Operators.{bytes, bytesOf}
+use Rattle.nodes.specs.Operators.{bytes}
 use Rattle.nodes.specs.NodeClock.{Ref, freeR, onR}
 use Rattle.blocks.specs.Blocks.{underBlock}
-
--- what stands past the end of a list of nodes
-abbrev pub blankNode : Node
-blankNode = Boolean (Constant 0)
-
-abbrev pub blank : Raw
-blank = bytesOf blankNode
 
 -- the block of a node that is no clock node, under any clock or none; c, x and y are new numbers
 unfoldable pub kindBlock : Ref → ℕ → ℕ → ℕ → ℕ → ℕ → List Raw

@@ -8,7 +8,8 @@ ghost use lib.ListN.{length, getD};
 ghost use Rattle.nodes.specs.Operators.{bytes, bytesOf};
 ghost use Rattle.clocks.specs.Computed.{refOf};
 ghost use Rattle.blocks.specs.Blocks.{letterBlock, nextBlock, untilBlock, underBlock};
-ghost use Rattle.blocks.specs.Computed.{blank, blankNode, kindBlock};
+ghost use Rattle.encoding.specs.Encoding.{blank, blankNode};
+ghost use Rattle.blocks.specs.Computed.{kindBlock};
 
 // The four bytes of op(x, y).
 fn node(op: u8, x: u8, y: u8) -> Raw

@@ -1,6 +1,6 @@
 -- The rules of the rows, bit by bit: document 01's "Rows left in the workspace", for each operator, from the rows of its operands. n is the number of
--- samples, and a bit that no rule sets is 0. `rowmeaning/proofs` shows that each rule is what the published meaning says. A rewritten table has no clock node:
--- of one no bit is set. Assumes nothing.
+-- samples, and a bit that no rule sets is 0. `rowmeaning/proofs` shows that each rule is what the published meaning says. A rewritten table has no clock node,
+-- and a derived operator is expanded before: of one no bit is set. Assumes nothing.
 use mathlib.Core.Bool.{Bool, true, false, not, _||_, _&&_}
 use mathlib.Core.List.{List, _∷_}
 use Prim.Native.Nat.{ℕ, zero, suc, _*_, _-_}
@@ -12,9 +12,9 @@ use Rattle.positions.specs.Member.{has}
 use Rattle.nodes.specs.declared.BooleanOp.{BooleanOp}
 use Rattle.nodes.specs.declared.BooleanOp.the-variants.{Constant, Signal, Not, And, Or, Risen, Fallen}
 use Rattle.nodes.specs.declared.SequenceOp.{SequenceOp}
-use Rattle.nodes.specs.declared.SequenceOp.the-variants.{Letter, Then, Fused, Either, Empty, Repeat, Clocked}
+use Rattle.nodes.specs.declared.SequenceOp.the-variants.{Letter, Then, Fused, Either, Empty, Repeat, Clocked, Derived}
 use Rattle.nodes.specs.declared.PropertyOp.{PropertyOp}
-use Rattle.nodes.specs.declared.PropertyOp.the-variants.{Strong, Weak, Negated, AnyOf, BothOf, Implies, Next, Until, Ticked}
+use Rattle.nodes.specs.declared.PropertyOp.the-variants.{Strong, Weak, Negated, AnyOf, BothOf, Implies, Next, Until, Ticked, Defined}
 use Rattle.cells.specs.Shares.{share, topWord, wordOf, bitIn}
 
 -- ---- boolean: word 0 has bit i where sample i satisfies it
@@ -77,6 +77,7 @@ sequenceBit rows n (Either a b) i j = bitIn rows a i j || bitIn rows b i j
 sequenceBit rows n (Empty a) i j = eqb j i
 sequenceBit rows n (Repeat a) i j = repeated (bitIn rows a) n (n - i) i j
 sequenceBit rows n (Clocked c a) i j = false
+sequenceBit rows n (Derived o) i j = false
 
 -- ---- sequence: word 64 has bit i where samples from i on, followed by one or more ⊤, match
 
@@ -89,6 +90,7 @@ goesOn rows (Either a b) w i = false
 goesOn rows (Empty a) w i = false
 goesOn rows (Repeat a) w i = some (λ m. w m && bitIn rows a topWord m) 0 64
 goesOn rows (Clocked c a) w i = false
+goesOn rows (Derived o) w i = false
 
 -- the first part itself ends among the letters ⊤, where the second then matches as well
 abbrev pub startsOpen : List ℕ → ℕ → SequenceOp → ℕ → Bool
@@ -99,6 +101,7 @@ startsOpen rows n (Either a b) i = bitIn rows a topWord i || bitIn rows b topWor
 startsOpen rows n (Empty a) i = false
 startsOpen rows n (Repeat a) i = bitIn rows a topWord i
 startsOpen rows n (Clocked c a) i = false
+startsOpen rows n (Derived o) i = false
 
 abbrev pub topBit : List ℕ → ℕ → SequenceOp → ℕ → Bool
 topBit rows n op i = leb i n && (goesOn rows op (sequenceBit rows n op i) i || startsOpen rows n op i)
@@ -163,3 +166,4 @@ propertyBit rows n (Implies a p) t i = impliesBit rows n a (toldIn rows p) t i
 propertyBit rows n (Next p) t i = nextBit n (toldIn rows p) t i
 propertyBit rows n (Until p q) t i = untilBit (toldIn rows p t) (toldIn rows q t) (untilLast t (toldIn rows p t n) (toldIn rows q t n)) n i
 propertyBit rows n (Ticked c p) t i = false
+propertyBit rows n (Defined o) t i = false

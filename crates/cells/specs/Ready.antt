@@ -1,11 +1,11 @@
--- What a call may ask of an operator: its operands' rows lie within the first w words. Assumes nothing.
+-- What a call may ask of an operator: its operands' rows lie within the first w words; of a clock node and of a derived operator, nothing. Assumes nothing.
 use Prim.Native.Nat.{ℕ, _<_}
 use Rattle.nodes.specs.declared.BooleanOp.{BooleanOp}
 use Rattle.nodes.specs.declared.BooleanOp.the-variants.{Constant, Signal, Not, And, Or, Risen, Fallen}
 use Rattle.nodes.specs.declared.SequenceOp.{SequenceOp}
-use Rattle.nodes.specs.declared.SequenceOp.the-variants.{Letter, Then, Fused, Either, Empty, Repeat, Clocked}
+use Rattle.nodes.specs.declared.SequenceOp.the-variants.{Letter, Then, Fused, Either, Empty, Repeat, Clocked, Derived}
 use Rattle.nodes.specs.declared.PropertyOp.{PropertyOp}
-use Rattle.nodes.specs.declared.PropertyOp.the-variants.{Strong, Weak, Negated, AnyOf, BothOf, Implies, Next, Until, Ticked}
+use Rattle.nodes.specs.declared.PropertyOp.the-variants.{Strong, Weak, Negated, AnyOf, BothOf, Implies, Next, Until, Ticked, Defined}
 use Rattle.cells.specs.Shares.{HasWords, HasRow}
 
 -- of a boolean their words, `stride` a node
@@ -26,6 +26,7 @@ readySequence w (Either a b) = HasRow w a × HasRow w b
 readySequence w (Empty a) = Unit {0}
 readySequence w (Repeat a) = HasRow w a
 readySequence w (Clocked c a) = Unit {0}
+readySequence w (Derived o) = Unit {0}
 
 abbrev pub readyProperty : ℕ → PropertyOp → Type 0
 readyProperty w (Strong a) = HasRow w a
@@ -37,3 +38,4 @@ readyProperty w (Implies a p) = HasRow w a × HasRow w p
 readyProperty w (Next p) = HasRow w p
 readyProperty w (Until p q) = HasRow w p × HasRow w q
 readyProperty w (Ticked c p) = Unit {0}
+readyProperty w (Defined o) = Unit {0}

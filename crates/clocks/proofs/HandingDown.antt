@@ -12,10 +12,10 @@ use lib.Dec.{eqb, ltb}
 use lib.ListN.{length, getD, set, replicate, length-set, getD-replicate}
 use lib.Seq.{getD-set-same, getD-set-other}
 use Rattle.telling.proofs.Telling.{side}
-use Rattle.refusal.specs.Heading.{count}
+use Rattle.refusal.specs.Heading.{version, count, Known}
 use Rattle.nodes.specs.declared.operators.Row.{Row}
 use Rattle.nodes.specs.declared.Raw.{Raw}
-use Rattle.nodes.specs.Operators.{sequence, rowOf}
+use Rattle.nodes.specs.Operators.{sequence, base, rowOf}
 use Rattle.nodes.specs.Nodes.{rawAt, rowAt, nodeAt, root, WellFormed}
 use Rattle.nodes.specs.NodeClock.{Ref, freeR, onR, Part, at-x, at-y, handed, ClockOf, c-root, c-part}
 use Rattle.nodes.specs.Computed.{namedBy}
@@ -30,6 +30,9 @@ use Rattle.clocks.proofs.Timing.{handed-by-row, clock-row, clocks-exist
 -- what the tests of a table gave
 pub built : {s : List ℕ} → AcceptedTable s → Built s
 built {s} h = sound s _ (h .checks) refl .formed
+
+pub versions : {s : List ℕ} → AcceptedTable s → Known base (version s)
+versions {s} h = sound s _ (h .checks) refl .known
 
 -- ---- the array
 

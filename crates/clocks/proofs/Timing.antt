@@ -28,11 +28,11 @@ use Rattle.clocks.specs.Clocks.{ClockIs, from-above, none-above, Clocks,
 abbrev handedBy : ℕ → Ref → Row → Ref
 handedBy x ρ r = cond (eqb (r .block) 0) (onR x) ρ
 
-abbrev byNode : Entry → ℕ → ℕ → Ref → Ref
-byNode e x y ρ = handed (e .make x y) ρ
+abbrev byNode : Entry → ℕ → ℕ → ℕ → Ref → Ref
+byNode e x y q ρ = handed (e .make x y q) ρ
 
-abbrev byRow : Entry → ℕ → ℕ → Ref → Ref
-byRow e x y ρ = handedBy x ρ (e .row)
+abbrev byRow : Entry → ℕ → ℕ → ℕ → Ref → Ref
+byRow e x y q ρ = handedBy x ρ (e .row)
 
 all-handed : map byNode operators ≡ map byRow operators
 unfolding operators
@@ -43,12 +43,13 @@ unfolding isClock nodeOf rowOf sortAt
 handed-by-row s p w ρ =
     let x = rawAt s p .x in
     let y = rawAt s p .y in
+    let q = rawAt s p .fourth in
     let op = rawAt s p .op in
-    let at : (ℕ → ℕ → Ref → Ref) → Ref = λ f. f x y ρ in
-    of-lookup (λ (v : Node). handed v ρ) (λ e. e .make x y) (Boolean (Constant 0)) operators op
-    ∙ sym (of-lookup at byNode (λ x y ρ. ρ) operators op)
-    ∙ ap at (same-line byNode byRow (λ x y ρ. ρ) (λ x y ρ. handedBy x ρ unknown) all-handed op (w .known))
-    ∙ of-lookup at byRow (λ x y ρ. handedBy x ρ unknown) operators op
+    let at : (ℕ → ℕ → ℕ → Ref → Ref) → Ref = λ f. f x y q ρ in
+    of-lookup (λ (v : Node). handed v ρ) (λ e. e .make x y q) (Boolean (Constant 0)) operators op
+    ∙ sym (of-lookup at byNode (λ x y q ρ. ρ) operators op)
+    ∙ ap at (same-line byNode byRow (λ x y q ρ. ρ) (λ x y q ρ. handedBy x ρ unknown) all-handed op (w .known))
+    ∙ of-lookup at byRow (λ x y q ρ. handedBy x ρ unknown) operators op
     ∙ sym (of-lookup (handedBy x ρ) (λ e. e .row) unknown operators op)
 
 -- the operators that have no block

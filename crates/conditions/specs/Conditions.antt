@@ -4,16 +4,18 @@ use mathlib.Core.List.{List}
 use Prim.Native.Nat.{ℕ, _+_, _*_, _<_, _≤_}
 use lib.ListN.{length, getD}
 use Rattle.positions.specs.Member.{has}
-use Rattle.refusal.specs.Heading.{count}
+use Rattle.refusal.specs.Heading.{version, count}
 use Rattle.meaning.specs.Syntax.{Bexp}
 use Rattle.meaning.specs.Pairs.{Atom, reading, pairs}
+use Rattle.nodes.specs.Operators.{base}
 use Rattle.nodes.specs.Nodes.{nodeAt, WellFormed}
 use Rattle.table.specs.Trees.{BooleanAt}
 use Rattle.cells.specs.Shares.{longest}
 use Rattle.rowmeaning.specs.Sets.{Valued}
 
--- a table and a record that were not refused
+-- a table of base operators and a record that were not refused
 pub record Shaped (s xs : List ℕ) : Type 0 where
+  pub old : version s ≤ base
   pub few : count s ≤ 120
   pub long : length s ≡ 4 * count s + 6
   pub fit : (k : ℕ) → k < count s → WellFormed s k

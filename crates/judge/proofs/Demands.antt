@@ -31,8 +31,7 @@ use Rattle.table.specs.Trees.{RootS, RootP}
 use Rattle.table.specs.Check as Check
 use Rattle.table.specs.Check.{Checks}
 use Rattle.table.proofs.Reading.{uniqueS}
-use Rattle.table.proofs.Theorems.{accepted-root}
-use Rattle.table.proofs.Checking.{sound, checks-given}
+use Rattle.table.proofs.Checking.{sound, checks-given, accepted-root}
 use Rattle.table.proofs.Standing.{sequence-in}
 use Rattle.table.proofs.Within.{not-both}
 use Rattle.rewrite.proofs.Clockless.{same-count}

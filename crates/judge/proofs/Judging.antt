@@ -36,7 +36,8 @@ use Rattle.table.specs.Check as Check
 use Rattle.table.specs.Check.{Checks}
 use Rattle.nodes.proofs.Built.{Built}
 use Rattle.table.proofs.Standing.{sequence-in, property-in}
-use Rattle.table.proofs.Checking.{sound, sorts}
+use Rattle.table.proofs.Checking.{sound}
+use Rattle.table.proofs.CheckingTo.{sorts}
 use Rattle.clocks.specs.Clocks.{Clocks}
 use Rattle.clocks.specs.Computed.{clockBy}
 use Rattle.clocks.proofs.Timing.{clocks-unique}

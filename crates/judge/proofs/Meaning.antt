@@ -8,7 +8,7 @@ use native.Mathlib.Omega.{arith}
 use lib.Dec.{eqb}
 use lib.ListN.{length, getD}
 use Rattle.positions.specs.Member.{has}
-use Rattle.refusal.specs.Heading.{count}
+use Rattle.refusal.specs.Heading.{version, count}
 use Rattle.refusal.specs.Computed.{accepted}
 use Rattle.meaning.specs.Syntax.{Bexp, Seq, Prop, free}
 use Rattle.meaning.specs.Pairs.{Atom, reading, pairs}
@@ -19,14 +19,17 @@ use Rattle.nodes.specs.declared.Node.the-variants.{Boolean, Sequence, Property}
 use Rattle.nodes.specs.declared.BooleanOp.{BooleanOp}
 use Rattle.nodes.specs.declared.BooleanOp.the-variants.{Constant, Signal, Not, And, Or, Risen, Fallen}
 use Rattle.nodes.specs.declared.SequenceOp.{SequenceOp}
-use Rattle.nodes.specs.declared.SequenceOp.the-variants.{Letter, Then, Fused, Either, Empty, Repeat, Clocked}
+use Rattle.nodes.specs.declared.SequenceOp.the-variants.{Letter, Then, Fused, Either, Empty, Repeat, Clocked, Derived}
 use Rattle.nodes.specs.declared.PropertyOp.{PropertyOp}
-use Rattle.nodes.specs.declared.PropertyOp.the-variants.{Strong, Weak, Negated, AnyOf, BothOf, Implies, Next, Until, Ticked}
-use Rattle.nodes.specs.Operators.{operators, lookup, rowOf, bytesOf, booleanBytes, sequenceBytes, propertyBytes}
+use Rattle.nodes.specs.declared.PropertyOp.the-variants.{Strong, Weak, Negated, AnyOf, BothOf, Implies, Next, Until, Ticked, Defined}
+use Rattle.nodes.specs.declared.DerivedSequence.{DerivedSequence}
+use Rattle.nodes.specs.declared.DerivedProperty.{DerivedProperty}
+use Rattle.nodes.specs.Operators.{base, operators, lookup, rowOf, bytesOf, booleanBytes, sequenceBytes, propertyBytes}
 use Rattle.nodes.specs.Nodes.{nodeAt, WellFormed}
-use Rattle.table.specs.Trees.{BooleanAt, b-const, b-sig, b-risen, b-fallen, b-not, b-and, b-or, SequenceAt, s-one, s-cat, s-fuse, s-alt, s-empty, s-plus, s-clock, PropertyAt, p-strong, p-weak, p-neg, p-either, p-both, p-imp, p-next, p-until, p-clock}
+use Rattle.table.specs.Trees.{BooleanAt, b-const, b-sig, b-risen, b-fallen, b-not, b-and, b-or, SequenceAt, s-one, s-cat, s-fuse, s-alt, s-empty, s-plus, s-clock, s-repeated, s-delayed, s-goto, s-nonconsecutive, PropertyAt, p-strong, p-weak, p-neg, p-either, p-both, p-imp, p-next, p-until, p-clock, p-implies-next, p-followed, p-followed-next, p-always, p-eventually, p-strong-until, p-strong-next}
 use Rattle.table.specs.Check.{Checks}
 use Rattle.nodes.proofs.Coded.{coded-as}
+use Rattle.nodes.proofs.Based.{not-derived, not-defined}
 use Rattle.nodes.proofs.Shapes.{Formed, Suits, down, numbered}
 use Rattle.table.proofs.Checking.{sound}
 use Rattle.clocks.specs.Clocks.{isClock}
@@ -71,6 +74,7 @@ module _ (t xs : List ℕ) (c : Checks t accepted) (plain : (k : ℕ) → k < co
   ready k h (Sequence (Empty x)) e f = tt
   ready k h (Sequence (Repeat x)) e f = low f
   ready k h (Sequence (Clocked d x)) e f = tt
+  ready k h (Sequence (Derived o)) e f = tt
   ready k h (Property (Strong x)) e f = low f
   ready k h (Property (Weak x)) e f = low f
   ready k h (Property (Negated x)) e f = low f
@@ -80,11 +84,12 @@ module _ (t xs : List ℕ) (c : Checks t accepted) (plain : (k : ℕ) → k < co
   ready k h (Property (Next x)) e f = low f
   ready k h (Property (Until x y)) e f = (low (f .0), low (f .1))
   ready k h (Property (Ticked d x)) e f = tt
+  ready k h (Property (Defined o)) e f = tt
 
   pub rows-ready : (k : ℕ) → k < count t → Ready (share * k) (nodeAt t k)
   rows-ready k h = ready k h (nodeAt t k) refl (down t k (fit k h) refl)
 
-  -- ---- there are no clock nodes
+  -- ---- there are no clock nodes, and no derived ones
 
   blocked : (k : ℕ) → k < count t → {v : Node} → nodeAt t k ≡ v → eqb (rowOf (bytesOf v .op) .block) 0 ≡ false
   unfolding isClock
@@ -97,6 +102,15 @@ module _ (t xs : List ℕ) (c : Checks t accepted) (plain : (k : ℕ) → k < co
   no-ticked : (k : ℕ) → k < count t → (d x : ℕ) → ¬ (nodeAt t k ≡ Property (Ticked d x))
   unfolding rowOf lookup operators bytesOf propertyBytes
   no-ticked k h d x e = true≢false (blocked k h e)
+
+  old : version t ≤ base
+  old = sound t accepted c refl .known .1
+
+  no-derived : {k : ℕ} {o : DerivedSequence} → k < count t → ¬ (nodeAt t k ≡ Sequence (Derived o))
+  no-derived {k} h e = not-derived t k (fit k h) old e
+
+  no-defined : {k : ℕ} {o : DerivedProperty} → k < count t → ¬ (nodeAt t k ≡ Property (Defined o))
+  no-defined {k} h e = not-defined t k (fit k h) old e
 
   -- ---- the induction
 
@@ -172,6 +186,10 @@ module _ (t xs : List ℕ) (c : Checks t accepted) (plain : (k : ℕ) → k < co
   sequence-means (s-empty e p) w = empty-row reading (pairs xs) free _ brief _ _ _ (sequence-laid w e)
   sequence-means (s-plus e p) w = let f = operands w e in repeat-row reading (pairs xs) free _ brief _ _ _ (sequence-means p (below w f)) (sequence-laid w e)
   sequence-means (s-clock {k = k} {c = d} {x = x} e p q) w = absurd (no-clocked k (w .inside) d x e)
+  sequence-means (s-repeated e p) w = absurd (no-derived (w .inside) e)
+  sequence-means (s-delayed e p q) w = absurd (no-derived (w .inside) e)
+  sequence-means (s-goto e p) w = absurd (no-derived (w .inside) e)
+  sequence-means (s-nonconsecutive e p) w = absurd (no-derived (w .inside) e)
 
   property-means : {D : List ℕ} {k : ℕ} {P : Prop Atom} → PropertyAt (nodeAt t) k P → Placed D k → PropertyRow reading (pairs xs) free (wordIn D k) P
   property-means (p-strong e p) w = let f = operands w e in by-rule (property-laid w e) (strong-says reading (pairs xs) free brief _ _ (sequence-means p (below w f)))
@@ -191,6 +209,13 @@ module _ (t xs : List ℕ) (c : Checks t accepted) (plain : (k : ℕ) → k < co
       let (f, g) = operands w e in
       by-rule (property-laid w e) (until-free-says reading (pairs xs) (says (property-means p (below w f))) (says (property-means q (below w g))))
   property-means (p-clock {k = k} {c = d} {x = x} e p q) w = absurd (no-ticked k (w .inside) d x e)
+  property-means (p-implies-next e p q) w = absurd (no-defined (w .inside) e)
+  property-means (p-followed e p q) w = absurd (no-defined (w .inside) e)
+  property-means (p-followed-next e p q) w = absurd (no-defined (w .inside) e)
+  property-means (p-always e p) w = absurd (no-defined (w .inside) e)
+  property-means (p-eventually e p) w = absurd (no-defined (w .inside) e)
+  property-means (p-strong-until e p q) w = absurd (no-defined (w .inside) e)
+  property-means (p-strong-next e p) w = absurd (no-defined (w .inside) e)
 
   -- what `fill` leaves is what the page says
   pub rows-mean : (d out : List ℕ) → share * count t ≤ length d → out ≡ filled t xs d (count t) → Filled t xs d out

@@ -12,7 +12,7 @@ use lib.ListN.{length, getD}
 use Rattle.telling.specs.Tells.{Tells, some}
 use Rattle.telling.proofs.Telling.{is-map, is-as, is-like, is-false, is-lt, is-some, is-test, passed, side}
 use Rattle.positions.specs.Member.{has}
-use Rattle.refusal.specs.Heading.{count}
+use Rattle.refusal.specs.Heading.{version, count, Known}
 use Rattle.meaning.specs.Syntax.{Bexp, Seq, Prop, implies, Clock, free}
 use Rattle.meaning.specs.Words.{Word, inside, word, none}
 use Rattle.meaning.specs.Meaning.{satisfies, Match, counts, Sat}
@@ -28,19 +28,21 @@ use Rattle.nodes.specs.declared.Raw.{Raw}
 use Rattle.nodes.specs.declared.Node.{Node}
 use Rattle.nodes.specs.declared.Node.the-variants.{Boolean, Sequence, Property}
 use Rattle.nodes.specs.declared.SequenceOp.{SequenceOp}
-use Rattle.nodes.specs.declared.SequenceOp.the-variants.{Letter, Then, Fused, Either, Empty, Repeat, Clocked}
-use Rattle.nodes.specs.declared.PropertyOp.the-variants.{Strong, Weak, Negated, AnyOf, BothOf, Implies, Next, Until, Ticked}
-use Rattle.nodes.specs.Operators.{sequence, bytesOf, sequenceBytes, propertyBytes}
+use Rattle.nodes.specs.declared.SequenceOp.the-variants.{Letter, Then, Fused, Either, Empty, Repeat, Clocked, Derived}
+use Rattle.nodes.specs.declared.PropertyOp.the-variants.{Strong, Weak, Negated, AnyOf, BothOf, Implies, Next, Until, Ticked, Defined}
+use Rattle.nodes.specs.declared.DerivedProperty.{DerivedProperty}
+use Rattle.nodes.specs.Operators.{sequence, base, bytesOf, sequenceBytes, propertyBytes}
 use Rattle.nodes.specs.Nodes.{rawAt, nodeAt, root}
 use Rattle.nodes.specs.NodeClock.{Ref, freeR, onR, handed}
 use Rattle.nodes.specs.Computed.{namedBy}
 use Rattle.nodes.proofs.Built.{Built}
 use Rattle.nodes.proofs.Coded.{coded-as}
 use Rattle.nodes.proofs.Shapes.{Formed, Suits, down}
-use Rattle.table.specs.Trees.{BooleanAt, SequenceAt, s-one, s-cat, s-fuse, s-alt, s-empty, s-plus, s-clock, PropertyAt, p-strong, p-weak, p-neg, p-either, p-both, p-imp, p-next, p-until, p-clock, RootP, ClockAt, c-free, c-on}
+use Rattle.table.specs.Trees.{BooleanAt, SequenceAt, s-one, s-cat, s-fuse, s-alt, s-empty, s-plus, s-clock, s-repeated, s-delayed, s-goto, s-nonconsecutive, PropertyAt, p-strong, p-weak, p-neg, p-either, p-both, p-imp, p-next, p-until, p-clock, p-implies-next, p-followed, p-followed-next, p-always, p-eventually, p-strong-until, p-strong-next, RootP, ClockAt, c-free, c-on}
 use Rattle.clocks.specs.Clocks.{Clocks}
 use Rattle.clocks.specs.Computed.{refOf, clockBy}
 use Rattle.clocks.proofs.Timing.{root-clock, clock-boolean}
+use Rattle.clocks.proofs.HandingDown.{versions}
 use Rattle.numbers.specs.Numbers.{newCount, numberOf}
 use Rattle.numbers.specs.Computed.{Numbered}
 use Rattle.writing.specs.Tables.{newTable}
@@ -71,6 +73,9 @@ module _ (s clocks numbers : List ℕ) (ok : Built s) (h : Numbered s clocks num
   right : Clocks s clock
   right = h .timed .right
 
+  known : Known base (version s)
+  known = versions (h .timed .table)
+
   abbrev ν : ℕ → ℕ
   ν = numberOf s clock
 
@@ -94,7 +99,7 @@ module _ (s clocks numbers : List ℕ) (ok : Built s) (h : Numbered s clocks num
   By κ P X = TestedBy reading (pairs xs) κ P X
 
   abbrev Has : ℕ → Ref → Type 0
-  Has k ρ = Trees.Has s ok clock right k ρ
+  Has k ρ = Trees.Has s ok known clock right k ρ
 
   -- ---- a node's own set
 
@@ -132,14 +137,14 @@ module _ (s clocks numbers : List ℕ) (ok : Built s) (h : Numbered s clocks num
     -- the matches of a sequence at x that are not empty, by their last letter
     matched : {r : Seq Atom} → SequenceAt nodes x r → (a : ℕ) → a ≡ ν x → (i l : ℕ) → i ≤ n → Tells (lastLetter ws a i l) (Match reading κ r w i (suc l) × (i ≤ l))
     matched {r} q a ea i l u =
-        let row = rows .sequences (ν x) (new-in (hx .0)) (rewS κ r) (Trees.sequence-stands s ok clock right q hx c) in
+        let row = rows .sequences (ν x) (new-in (hx .0)) (rewS κ r) (Trees.sequence-stands s ok known clock right q hx c) in
         let m = match-rew reading κ r w i (suc l) in
         rw ea (is-map (longer-tells reading (pairs xs) free ws (ν x) (rewS κ r) row i u (suc l)) (λ z. let v = z .1 in (m .1 (z .0), omega arith)) (λ z. let v = z .1 in (m .0 (z .0), omega arith)))
 
     -- where a property at x holds, with no tail
     held : {P : Prop Atom} → PropertyAt nodes x P → (a : ℕ) → a ≡ ν x → (k : ℕ) → k ≤ n → Tells (bitIn ws a 0 k) (Sat reading κ P w k)
     held {P} q a ea k u =
-        rw ea (is-like (rows .properties (ν x) (new-in (hx .0)) (rewP κ P) (Trees.property-stands s ok clock right q hx c) .answers none k u) (sat-rew reading κ P (pairs xs) none k))
+        rw ea (is-like (rows .properties (ν x) (new-in (hx .0)) (rewP κ P) (Trees.property-stands s ok known clock right q hx c) .answers none k u) (sat-rew reading κ P (pairs xs) none k))
 
   -- ---- clocks and ticks
 
@@ -168,7 +173,7 @@ module _ (s clocks numbers : List ℕ) (ok : Built s) (h : Numbered s clocks num
   -- the row of a boolean at c
   satisfied : {c : ℕ} {b : Bexp Atom} → c < count s → BooleanAt nodes c b → (a : ℕ) → a ≡ ν c → (j : ℕ) → Tells (bitIn ws a 0 j) (T (satisfies reading (w j) b))
   satisfied {c} {b} l q a ea j =
-      let row = rows .booleans (ν c) (new-in l) b (Trees.boolean-stands s ok clock right q l) in
+      let row = rows .booleans (ν c) (new-in l) b (Trees.boolean-stands s ok known clock right q l) in
       rw ea
       (⊎-elim (λ u. is-as (row .bits j u) (is-test (satisfies reading (w j) b)))
       (λ u. is-as (row .past j u) (is-false (λ t. let v = satisfies-in reading b (pairs xs) j t in absurd (omega arith)))) (side j n))
@@ -198,7 +203,7 @@ module _ (s clocks numbers : List ℕ) (ok : Built s) (h : Numbered s clocks num
       → some (has (own x)) 0 64 ≡ true → By κ P Y → By κ (implies r P) (λ i. has (own x) i && Y i)
   unfolding bytesOf sequenceBytes
   lettered {x} (s-one {x = c} e q) hx c-free t p =
-      let inside = Trees.inside s ok clock right (hx .0) (Trees.goes s ok clock right (hx .0) e) in
+      let inside = Trees.inside s ok known clock right (hx .0) (Trees.goes s ok known clock right (hx .0) e) in
       let a-is = row-of (hx .0) e (λ r. r .x) inside in
       letter-tested reading (pairs xs)
       (λ i.
@@ -214,6 +219,10 @@ module _ (s clocks numbers : List ℕ) (ok : Built s) (h : Numbered s clocks num
   lettered (s-empty e q) hx c t p = absurd (empty-set e (hx .0) (λ i. refl) t)
   lettered (s-plus e q) hx c t p = absurd (empty-set e (hx .0) (λ i. refl) t)
   lettered (s-clock e b q) hx c t p = absurd (empty-set e (hx .0) (λ i. refl) t)
+  lettered (s-repeated e q) hx c t p = absurd (empty-set e (hx .0) (λ i. refl) t)
+  lettered (s-delayed e q z) hx c t p = absurd (empty-set e (hx .0) (λ i. refl) t)
+  lettered (s-goto e q) hx c t p = absurd (empty-set e (hx .0) (λ i. refl) t)
+  lettered (s-nonconsecutive e q) hx c t p = absurd (empty-set e (hx .0) (λ i. refl) t)
 
   -- `|->` by the letter's set, or by the row
   asked : {κ : Clock Atom} {r : Seq Atom} {P : Prop Atom} (a : ℕ) (X Y : ℕ → Bool) → (some X 0 64 ≡ true → By κ (implies r P) (λ i. X i && Y i))
@@ -227,43 +236,54 @@ module _ (s clocks numbers : List ℕ) (ok : Built s) (h : Numbered s clocks num
   -- ---- the induction
 
   part : {k x sort : ℕ} {v : Node} {ρ : Ref} → Has k ρ → nodes k ≡ v → Suits s k sort x → T (leb sequence sort) → Has x (handed v ρ)
-  part = Trees.part s ok clock right
+  part = Trees.part s ok known clock right
+
+  -- a node is not derived
+  no-defined : {k : ℕ} {o : DerivedProperty} → k < count s → ¬ (nodes k ≡ Property (Defined o))
+  no-defined = Trees.no-defined s ok known clock right
 
   sets-mean : {k : ℕ} {P : Prop Atom} {ρ : Ref} {κ : Clock Atom} → PropertyAt nodes k P → Has k ρ → ClockAt nodes ρ κ → By κ P (has (own k))
   unfolding bytesOf propertyBytes
   sets-mean (p-strong e q) hk c = made (hk .0) e _ _ refl refl (strong-tested reading (pairs xs) _ _)
   sets-mean (p-weak e q) hk c = made (hk .0) e _ _ refl refl (weak-tested reading (pairs xs) _ _)
   sets-mean (p-neg e q) hk c =
-      let g = Trees.goes s ok clock right (hk .0) e in
+      let g = Trees.goes s ok known clock right (hk .0) e in
       made (hk .0) e _ _ (operand (hk .0) (g .0)) refl (not-tested reading (pairs xs) (sets-mean q (part hk e g tt) c))
   sets-mean (p-either e q z) hk c =
-      let (f, g) = Trees.goes s ok clock right (hk .0) e in
+      let (f, g) = Trees.goes s ok known clock right (hk .0) e in
       made (hk .0) e _ _ (operand (hk .0) (f .0)) (operand (hk .0) (g .0)) (or-tested reading (pairs xs) (sets-mean q (part hk e f tt) c) (sets-mean z (part hk e g tt) c))
   sets-mean (p-both e q z) hk c =
-      let (f, g) = Trees.goes s ok clock right (hk .0) e in
+      let (f, g) = Trees.goes s ok known clock right (hk .0) e in
       made (hk .0) e _ _ (operand (hk .0) (f .0)) (operand (hk .0) (g .0)) (and-tested reading (pairs xs) (sets-mean q (part hk e f tt) c) (sets-mean z (part hk e g tt) c))
   sets-mean {k} (p-imp e q z) hk c =
-      let (f, g) = Trees.goes s ok clock right (hk .0) e in
+      let (f, g) = Trees.goes s ok known clock right (hk .0) e in
       let hx = part hk e f tt in
       let p = sets-mean z (part hk e g tt) c in
       made (hk .0) e _ _ (operand (hk .0) (f .0)) (operand (hk .0) (g .0))
       (asked _ _ _ (λ t. lettered q hx c t p) (implies-tested reading (pairs xs) short p (matched c hx q (at k .a) (row-of (hk .0) e (λ r. r .x) (hx .0)))))
   sets-mean (p-next {x = x} e q) hk c-free =
-      let g = Trees.goes s ok clock right (hk .0) e in
+      let g = Trees.goes s ok known clock right (hk .0) e in
       made (hk .0) e _ _ (operand (hk .0) (g .0)) refl (next-free (has (own x)) hk (next-tested reading (pairs xs) (sets-mean q (part hk e g tt) c-free)))
   sets-mean (p-next {x = x} e q) hk (c-on {b = b} z) =
-      let g = Trees.goes s ok clock right (hk .0) e in
+      let g = Trees.goes s ok known clock right (hk .0) e in
       made (hk .0) e _ _ (operand (hk .0) (g .0)) refl
       (next-on (has (own x)) hk (tick-tested reading (pairs xs) b (λ j. is-like (tick-on hk z j) (both-ways (ap T (ticks-satisfy reading b (pairs xs) j)))) (sets-mean q (part hk e g tt) (c-on z))))
   sets-mean {k} (p-until e q z) hk c =
-      let (f, g) = Trees.goes s ok clock right (hk .0) e in
+      let (f, g) = Trees.goes s ok known clock right (hk .0) e in
       let hx = part hk e f tt in
       let hy = part hk e g tt in
       made (hk .0) e _ _ (operand (hk .0) (f .0)) (operand (hk .0) (g .0))
       (until-tested reading (pairs xs) (sets-mean q hx c) (sets-mean z hy c) (tick hk c) (held c hx q (at k .a) (row-of (hk .0) e (λ r. r .x) (hx .0))) (held c hy z (at k .b) (row-of (hk .0) e (λ r. r .y) (hy .0))))
   sets-mean (p-clock e b q) hk c =
-      let (_, g) = Trees.goes s ok clock right (hk .0) e in
+      let (_, g) = Trees.goes s ok known clock right (hk .0) e in
       made (hk .0) e _ _ refl (operand (hk .0) (g .0)) (under-tested reading (pairs xs) (sets-mean q (part hk e g tt) (c-on b)))
+  sets-mean (p-implies-next e q z) hk c = absurd (no-defined (hk .0) e)
+  sets-mean (p-followed e q z) hk c = absurd (no-defined (hk .0) e)
+  sets-mean (p-followed-next e q z) hk c = absurd (no-defined (hk .0) e)
+  sets-mean (p-always e q) hk c = absurd (no-defined (hk .0) e)
+  sets-mean (p-eventually e q) hk c = absurd (no-defined (hk .0) e)
+  sets-mean (p-strong-until e q z) hk c = absurd (no-defined (hk .0) e)
+  sets-mean (p-strong-next e q) hk c = absurd (no-defined (hk .0) e)
 
   -- what is read off the root's set
   pub tested-means : (P : Prop Atom) → RootP s P → Tells (testedIn s clocks numbers ws (length xs)) (Tests reading (pairs xs) P)
@@ -306,6 +326,7 @@ module _ (s clocks numbers : List ℕ) (ok : Built s) (h : Numbered s clocks num
   node-there k l (Sequence (Empty x)) e f = tt
   node-there k l (Sequence (Repeat x)) e f = tt
   node-there k l (Sequence (Clocked c x)) e f = tt
+  node-there k l (Sequence (Derived o)) e f = tt
   node-there k l (Property (Strong x)) e f = tt
   node-there k l (Property (Weak x)) e f = tt
   node-there k l (Property (Negated x)) e f = tt
@@ -317,6 +338,7 @@ module _ (s clocks numbers : List ℕ) (ok : Built s) (h : Numbered s clocks num
       let r = coded-as s k (ok .fit k l) e in
       (row-there k x l (f .0 .0) (λ r. r .x) (sym (ap (λ (r : Raw). r .x) r)), row-there k y l (f .1 .0) (λ r. r .y) (sym (ap (λ (r : Raw). r .y) r)), clock-there k l)
   node-there k l (Property (Ticked c x)) e f = tt
+  node-there k l (Property (Defined o)) e f = tt
 
   pub testing : (n : ℕ) → n ≤ longest → Testing s clocks numbers ws n
   testing n short =

@@ -13,7 +13,7 @@ use Rattle.meaning.proofs.Theorems as Meaning
 use Rattle.table.specs.Trees.{RootP}
 use Rattle.table.specs.Check.{Checks}
 use Rattle.table.proofs.Reading.{uniqueP}
-use Rattle.table.proofs.Theorems.{accepted-root}
+use Rattle.table.proofs.Checking.{accepted-root}
 use Rattle.judgement.specs.declared.Judgement.{Judgement}
 use Rattle.judgement.specs.Meant.{Meant}
 

@@ -152,5 +152,7 @@ pub fn open_starts(rows: &[u64], n: usize, op: SequenceOp) -> PositionSet
         SequenceOp::Empty(_) => PositionSet::empty(),
         SequenceOp::Repeat(a) => word_at(rows, a, TOP_WORD),
         SequenceOp::Clocked(_, _) => PositionSet::empty(),
+        // A derived operator is expanded before: no table here has one.
+        SequenceOp::Derived(_) => PositionSet::empty(),
     }
 }

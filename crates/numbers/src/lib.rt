@@ -1,5 +1,6 @@
 // How many new nodes there are, and the new number of each node: first all booleans in their order, then one block per other node in order.
 use clocks::UNCLOCKED;
+use encoding::low;
 use nodes::named;
 use nodes::node_at;
 use nodes::operators::BOOLEAN;
@@ -18,14 +19,6 @@ ghost use Rattle.numbers.specs.Computed.{CountsOf, Numbered};
 pub struct Counts {
     pub booleans: usize,
     pub all: usize,
-}
-
-// A number below 256 as a byte.
-pub fn low(x: usize) -> u8
-    requires { ⌜ x < 256 ⌝ }
-    ensures { λ r. ⌜ r ≡ x ⌝ }
-{
-    x as u8
 }
 
 // One of two numbers, so that the loops below have no branch of their own.

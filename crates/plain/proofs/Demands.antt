@@ -21,7 +21,7 @@ use Rattle.nodes.specs.Operators.{sequence}
 use Rattle.table.specs.Trees.{RootP}
 use Rattle.table.specs.Check as Check
 use Rattle.table.specs.Check.{Checks}
-use Rattle.table.proofs.Theorems.{accepted-root}
+use Rattle.table.proofs.Checking.{accepted-root}
 use Rattle.cells.specs.Shares.{longest}
 use Rattle.judgement.specs.declared.Judgement.{Judgement}
 use Rattle.judgement.specs.BySamples.{MeantBySamples}

@@ -30,7 +30,8 @@ use Rattle.table.specs.Trees.{RootP}
 use Rattle.table.specs.Check as Check
 use Rattle.table.specs.Check.{Checks}
 use Rattle.table.proofs.Standing.{property-in}
-use Rattle.table.proofs.Checking.{sound, sorts, checks-given}
+use Rattle.table.proofs.Checking.{sound, checks-given}
+use Rattle.table.proofs.CheckingTo.{sorts}
 use Rattle.cells.specs.Shares.{longest}
 use Rattle.ticking.specs.declared.Ticks.{Ticks}
 use Rattle.steps.specs.declared.Told.{Told}
@@ -136,7 +137,7 @@ module _ (s xs : List ℕ) (v : Verdict) (c : Checks s v) where
             short = le-of-suc-le-suc (lt-of-not-le (failed (is-lt longest (length xs)) brief))
 
             pub shaped : Shaped s xs
-            shaped = record { few = built .few; long = built .long; fit = built .fit; short = short }
+            shaped = record { old = sound s v c z .known .1; few = built .few; long = built .long; fit = built .fit; short = short }
 
             -- the root is a property
             property-at-root : (P : Prop Atom) × RootP s P

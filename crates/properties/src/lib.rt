@@ -10,7 +10,7 @@ use positions::PositionSet;
 use untils::begun;
 use untils::begun_in_tail;
 use untils::leading;
-ghost use mathlib.Core.Bool.{_||_, _&&_};
+ghost use mathlib.Core.Bool.{false, _||_, _&&_};
 ghost use Prim.Native.Nat.{suc, _≤_};
 ghost use lib.Dec.{leb};
 ghost use lib.ListN.{length};
@@ -165,7 +165,19 @@ fn until_of(rows: &[u64], n: usize, p: usize, q: usize) -> Suffixes
     leading(neutral, weak, strong)
 }
 
-// The words of a property. A rewritten table has no clock node, and no word is made for one.
+// No suffix at all.
+fn none_of() -> Suffixes
+    ensures { λ r. ⌜ Sets (λ t k. false) r ⌝ }
+{
+    let none = PositionSet::empty();
+    Suffixes {
+        neutral: none,
+        weak: none,
+        strong: none,
+    }
+}
+
+// The words of a property. A rewritten table has no clock node, and a derived operator is expanded before: no word is made for one.
 pub fn suffixes_of(rows: &[u64], n: usize, op: PropertyOp) -> Suffixes
     requires { ⌜ readyProperty (length (now rows)) op × (n ≤ longest) ⌝ }
     ensures { λ r. ⌜ Satisfying (now (rows .entry)) n op r ⌝ }
@@ -179,13 +191,7 @@ pub fn suffixes_of(rows: &[u64], n: usize, op: PropertyOp) -> Suffixes
         PropertyOp::Implies(a, p) => implies_of(rows, n, a, three_at(rows, p)),
         PropertyOp::Next(p) => next_of(three_at(rows, p), n),
         PropertyOp::Until(p, q) => until_of(rows, n, p, q),
-        PropertyOp::Ticked(_, _) => {
-            let none = PositionSet::empty();
-            Suffixes {
-                neutral: none,
-                weak: none,
-                strong: none,
-            }
-        }
+        PropertyOp::Ticked(_, _) => none_of(),
+        PropertyOp::Defined(_) => none_of(),
     }
 }

@@ -3,7 +3,6 @@ use native.Mathlib.Omega.{arith}
 use native.Mathlib.Nat.{le-refl}
 use borrow.Author.Tests.{eqb-true, ne-eqb}
 use mathlib.Core.Path.{_≡_, refl, _∙_, sym, ap, subst}
-use mathlib.Core.Logic.{⊎-elim}
 use mathlib.Core.Bool.{Bool, true, false, cond}
 use mathlib.Core.List.{List}
 use Prim.Native.Nat.{ℕ, suc, _-_, _<_, _≤_}
@@ -19,12 +18,9 @@ use Rattle.nodes.specs.Nodes.{rowAt, sortAt, nodeAt, usesOf, root}
 use Rattle.nodes.specs.NodeClock.{Ref}
 use Rattle.table.specs.Trees.{SequenceAt, PropertyAt, c-free}
 use Rattle.table.specs.Check.{Checks}
-use Rattle.table.specs.Computed.{checked}
-use Rattle.nodes.proofs.Built.{Built}
-use Rattle.table.proofs.Standing.{sequence-in, property-in}
-use Rattle.table.proofs.Checking.{Sound, checks, nine-or-none, sorts}
-use Rattle.table.proofs.Topping.{accepted-at}
-use Rattle.table.proofs.Theorems.{refused-sequence, refused-root}
+use Rattle.nodes.proofs.Built.{Built, root-in, root-heavy}
+use Rattle.nodes.proofs.Placing.{unused}
+use Rattle.table.proofs.Checking.{Sound, made-checks}
 use Rattle.clocks.specs.Clocks.{Clocks, isClock}
 use Rattle.clocks.proofs.Timing.{root-clock}
 use Rattle.numbers.specs.Numbers.{isBoolean, lengthOf, newCount, numberOf}
@@ -35,7 +31,6 @@ use Rattle.rewrite.proofs.Cells.{last-at, stands-sort}
 use Rattle.rewrite.proofs.Ordering.{is-other, before, stands-in, stands-past, found}
 use Rattle.rewrite.proofs.Trees.{sequence-stands, property-stands}
 use Rattle.rewrite.proofs.Forming.{versions, new-fit}
-use Rattle.rewrite.proofs.Tallies.{top-unused}
 use Rattle.rewrite.proofs.Places.{uses-new}
 
 module _ (s : List ℕ) (sound : Sound s) (clock : ℕ → Ref) (right : Clocks s clock) where
@@ -51,16 +46,10 @@ module _ (s : List ℕ) (sound : Sound s) (clock : ℕ → Ref) (right : Clocks 
   ok : Built s
   ok = sound .formed
 
-  root-in : root s < count s
-  root-in = let l = ok .some in omega arith
-
-  root-sort : sequence ≤ sortAt s (root s)
-  root-sort = let r = ok .rooted in let k = ok .fit (root s) root-in .known in omega arith
-
   -- ---- the root
 
   root-new : ν (root s) < m
-  root-new = stands-in s clock (ok .fit) (root s) root-in
+  root-new = stands-in s clock (ok .fit) (root s) (root-in ok)
 
   -- a node with new nodes is no clock node
   blocked : (k : ℕ) → 0 < lengthOf s clock k → isClock s k ≡ false
@@ -74,7 +63,7 @@ module _ (s : List ℕ) (sound : Sound s) (clock : ℕ → Ref) (right : Clocks 
       go : (b : Bool) → isBoolean s k ≡ b → sequence ≤ sortAt s k
       go true e =
           let l = rw e at (before s clock (ok .fit) k (count s) h (le-refl _)) in
-          let o = stands-past s clock (ok .fit) (root s) root-in root-sort in
+          let o = stands-past s clock (ok .fit) (root s) (root-in ok) (root-heavy ok) in
           let p = root-new in
           absurd (let w : ⊥ = omega arith in w)
       go false e = is-other s k (ok .fit k h) e
@@ -97,7 +86,7 @@ module _ (s : List ℕ) (sound : Sound s) (clock : ℕ → Ref) (right : Clocks 
   root-last =
       let p = root-new in
       let u = uses-new s ok clock right (m - 1) (omega arith) top-sort in
-      let z = top-unused t (m - 1) m (new-fit s ok clock right) (omega arith) in
+      let z = unused t (m - 1) m (omega arith) (new-fit s ok (sound .known) clock right) in
       go (eqb (ν (root s)) (m - 1)) refl (omega arith)
     where
       go : (b : Bool) → eqb (ν (root s)) (m - 1) ≡ b → _≡_ {A = ℕ} (cond b 1 0) 1 → ν (root s) ≡ m - 1
@@ -124,41 +113,27 @@ module _ (s : List ℕ) (sound : Sound s) (clock : ℕ → Ref) (right : Clocks 
   built : m ≤ 120 → Built t
   unfolding newTable
   built h = record {
-    known = versions s ok clock right;
     some = let p = root-new in omega arith;
     few = h;
     long = length-table s clock (ok .fit);
-    fit = new-fit s ok clock right;
+    fit = new-fit s ok (sound .known) clock right;
     once = once-new;
-    rooted = λ e. let r = root-sort in let c = stands-sort s clock (ok .fit) (root s) root-in in let z : sortAt t (ν (root s)) ≡ boolean = ap (sortAt t) (sym root-at) ∙ e in omega arith;
+    rooted = λ e. let r = root-heavy ok in let c = stands-sort s clock (ok .fit) (root s) (root-in ok) in let z : sortAt t (ν (root s)) ≡ boolean = ap (sortAt t) (sym root-at) ∙ e in omega arith;
   }
 
   -- ---- what its root stands for
 
   pub sequence-root : (r : Seq Atom) → SequenceAt (nodeAt s) (root s) r → SequenceAt (nodeAt t) (root t) (rewS free r)
   sequence-root r d =
-      subst (λ (k : ℕ). SequenceAt (nodeAt t) k (rewS free r)) (sym root-at) (sequence-stands s ok clock right d (root-in, root-clock s ok clock right) c-free)
+      subst (λ (k : ℕ). SequenceAt (nodeAt t) k (rewS free r)) (sym root-at) (sequence-stands s ok (sound .known) clock right d (root-in ok, root-clock s ok clock right) c-free)
 
   pub property-root : (P : Prop Atom) → PropertyAt (nodeAt s) (root s) P → PropertyAt (nodeAt t) (root t) (rewP free P)
   property-root P d =
-      subst (λ (k : ℕ). PropertyAt (nodeAt t) k (rewP free P)) (sym root-at) (property-stands s ok clock right d (root-in, root-clock s ok clock right) c-free)
+      subst (λ (k : ℕ). PropertyAt (nodeAt t) k (rewP free P)) (sym root-at) (property-stands s ok (sound .known) clock right d (root-in ok, root-clock s ok clock right) c-free)
 
   -- ---- the new table is accepted
-
-  -- 9 is given for no sequence, and for no property that the meaning accepts
-  not-nine : Checks t (checked t) → ¬ (checked t .number ≡ 9)
-  not-nine c z =
-      ⊎-elim
-      (λ e. let (r, d) = sequence-in s (count s) (ok .fit) (count s) (root s) root-in root-in e in refused-sequence t (checked t) c z (rewS free r) (sequence-root r d))
-      (λ e.
-      let (P, d) = property-in s (count s) (ok .fit) (count s) (root s) root-in root-in e in
-      refused-root t (checked t) c z (rewP free P) (property-root P d)
-      (accepted-rew reading free P (accepted-at s (count s) (ok .fit) (sound .solid) d root-in free)))
-      (sorts s (root s) (ok .fit (root s) root-in) (ok .rooted))
 
   pub new-checks : m ≤ 120 → Checks t accepted
   unfolding newTable
   new-checks h =
-      let c = checks t (checked t) refl in
-      let b = built h in
-      ⊎-elim (λ z. absurd (not-nine c z)) (λ e. subst (Checks t) e c) (nine-or-none t (checked t) c (let l = b .long in omega arith) refl b)
+      made-checks s sound t (rewS free) (rewP free) sequence-root property-root (λ P a. accepted-rew reading free P a) refl (versions s ok (sound .known) clock right) (built h)

@@ -5,8 +5,8 @@ use borrow.Author.Tests.{eqb-false}
 use mathlib.Core.Path.{_≡_, refl, _∙_, sym, ap}
 use mathlib.Core.Logic.{⊎-elim}
 use mathlib.Core.Bool.{Bool, true, false, not, cond, true≢false}
-use mathlib.Core.List.{List, [], _∷_, _++_}
-use Prim.Native.Nat.{ℕ, zero, suc, _+_, _*_, _-_, _<_, _≤_}
+use mathlib.Core.List.{List, [], _++_}
+use Prim.Native.Nat.{ℕ, zero, suc, _+_, _-_, _<_, _≤_}
 use lib.Dec.{eqb}
 use lib.ListN.{length, getD, List·getD-append}
 use lib.Seq.{getD-append-add}
@@ -21,36 +21,13 @@ use Rattle.clocks.proofs.Timing.{clock-row, operand-below}
 use Rattle.numbers.specs.Numbers.{sum, isBoolean, isOther, lengthOf, newCount, taken, startOf, numberOf}
 use Rattle.numbers.proofs.Sums.{sum-le}
 use Rattle.numbers.proofs.Numbering.{some-under, start-fits, stands-last, stands-operand}
-use Rattle.blocks.specs.Blocks.{movedNode, blockUnder}
-use Rattle.blocks.specs.Computed.{blank}
+use Rattle.encoding.specs.Moved.{movedNode}
+use Rattle.blocks.specs.Blocks.{blockUnder}
+use Rattle.encoding.specs.Encoding.{blank}
 use Rattle.blocks.proofs.Viewing.{single-is, letter-is, next-is, until-is, View, of-none, of-single, of-letter, of-next, of-until, view}
-use Rattle.writing.specs.Tables.{heading, fourBytes, encoded, blockOf, laid, newNodes, newTable}
+use Rattle.encoding.proofs.Reading.{raw-of}
+use Rattle.writing.specs.Tables.{blockOf, laid, newNodes, newTable}
 use Rattle.writing.proofs.Lengths.{length-new, block-long, laid-long}
-
--- ---- bytes
-
--- byte j of node q
-encoded-at : (rs : List Raw) (q j : ℕ) → j < 4 → q < length rs → getD (encoded rs) (4 * q + j) 0 ≡ getD (fourBytes (getD rs q blank)) j 0
-unfolding encoded
-encoded-at [] q j l h = absurd (not-suc-le-zero h)
-encoded-at (r ∷ rs) zero j l h = let e : 4 * 0 + j ≡ j = omega arith in rw e (List·getD-append (fourBytes r) (encoded rs) 0 j l)
-encoded-at (r ∷ rs) (suc q) j l h =
-    let e : 4 * suc q + j ≡ suc (suc (suc (suc (4 * q + j)))) = omega arith in rw e (encoded-at rs q j l (le-of-suc-le-suc h))
-
-module _ (s : List ℕ) (m : ℕ) (rs : List Raw) (q : ℕ) (h : q < length rs) where
-  byte : (i j : ℕ) → j < 4 → i ≡ 4 * q + 6 + j → getD (heading s m ++ encoded rs) i 0 ≡ getD (fourBytes (getD rs q blank)) j 0
-  byte i j l e =
-      let z : i ≡ 6 + (4 * q + j) = omega arith in
-      rw z (getD-append-add (heading s m) (encoded rs) (4 * q + j) 0 ∙ encoded-at rs q j l h)
-
-  -- node q of a heading and the bytes of nodes
-  raw-of : rawAt (heading s m ++ encoded rs) q ≡ getD rs q blank
-  raw-of =
-      let a = byte (4 * q + 6) 0 (omega arith) (omega arith) in
-      let b = byte (4 * q + 6 + 1) 1 (omega arith) refl in
-      let c = byte (4 * q + 6 + 2) 2 (omega arith) refl in
-      let d = byte (4 * q + 6 + 3) 3 (omega arith) refl in
-      λ i. record { op = a i; x = b i; y = c i; fourth = d i }
 
 -- ---- the sort of a block's last node
 
@@ -82,7 +59,7 @@ past p q n i d h = rw (← h) (getD-append-add p q i d)
 module _ (s : List ℕ) (clock : ℕ → Ref) (fit : (k : ℕ) → k < count s → WellFormed s k) where
   pub raw-at : (q : ℕ) → q < newCount s clock → rawAt (newTable s clock) q ≡ getD (newNodes s clock) q blank
   unfolding newTable
-  raw-at q h = raw-of s (newCount s clock) (newNodes s clock) q (let e = length-new s clock fit in omega arith)
+  raw-at q h = raw-of (getD s 3 0) (getD s 4 0) (newCount s clock) (newNodes s clock) q (let e = length-new s clock fit in omega arith)
 
   module _ (test : ℕ → Bool) (k i : ℕ) (passes : test k ≡ true) (l : i < length (blockOf s clock k)) where
     -- what k gives ends before what a later node gives

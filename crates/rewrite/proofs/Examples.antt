@@ -10,9 +10,9 @@ use Rattle.refusal.specs.Computed.{accepted, firstOf, firstCase, headingCases, 
 use Rattle.nodes.specs.Operators.{operators, lookup, rowOf, nodeOf, bytesOf, booleanBytes, sequenceBytes, propertyBytes}
 use Rattle.nodes.specs.Nodes.{sortAt, hitsOf, usesOf}
 use Rattle.nodes.specs.NodeClock.{Ref, freeR, onR, at-x, at-y, c-root, c-part}
-use Rattle.faults.specs.Flags.{sequenceTops, nodeTops, topsBelow, hollowProperty, hollowNode, hollow}
+use Rattle.hollows.specs.Flags.{sequenceTops, nodeTops, topsBelow, hollowProperty, hollowNode, hollow}
 use Rattle.table.specs.Check.{Checks}
-use Rattle.faults.specs.Computed.{operandFits, nodeFits, astray}
+use Rattle.faults.specs.Computed.{operandFits, fourthFits, nodeFits, astray}
 use Rattle.table.specs.Computed.{nodeCases, laterCases, checked}
 use Rattle.nodes.proofs.Built.{Built}
 use Rattle.table.proofs.Checking.{checks, sound}
@@ -20,8 +20,10 @@ use Rattle.nodes.proofs.Clocking.{clock-inside}
 use Rattle.clocks.specs.Clocks.{from-above, none-above, Clocks, isClock}
 use Rattle.clocks.proofs.Timing.{clocked-sort, clocks-unique}
 use Rattle.numbers.specs.Numbers.{sum, isBoolean, lengthUnder, startOf, numberIn, numberOf}
-use Rattle.blocks.specs.Blocks.{underBlock, moved, movedNode, movedBlock, blockUnder}
-use Rattle.writing.specs.Tables.{encoded, laid, newTable}
+use Rattle.encoding.specs.Moved.{moved, movedNode}
+use Rattle.blocks.specs.Blocks.{underBlock, movedBlock, blockUnder}
+use Rattle.encoding.specs.Encoding.{encoded}
+use Rattle.writing.specs.Tables.{laid, newTable}
 
 abbrev table : ℕ → List ℕ → List ℕ
 table n nodes = 0x53 ∷ 0x56 ∷ 0x54 ∷ 1 ∷ 0 ∷ n ∷ nodes
@@ -59,7 +61,7 @@ abbrev clockC : ℕ → Ref
 clockC k = cond (eqb k 2 || eqb k 3) (onR 1) freeR
 
 is-accepted : Checks clocked accepted
-unfolding checked laterCases nodeCases operandFits nodeFits astray hollow hollowNode hollowProperty topsBelow nodeTops sequenceTops sortAt hitsOf usesOf rowOf nodeOf lookup operators firstOf firstCase headingCases isMarked
+unfolding checked laterCases nodeCases operandFits fourthFits nodeFits astray hollow hollowNode hollowProperty topsBelow nodeTops sequenceTops sortAt hitsOf usesOf rowOf nodeOf lookup operators firstOf firstCase headingCases isMarked
 is-accepted = checks clocked accepted refl
 
 computed : newTable clocked clockC ≡ twelve

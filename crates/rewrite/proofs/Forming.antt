@@ -1,10 +1,10 @@
 -- Every node of the rewritten table is well formed, and none is a clock node. Assumes nothing.
 use native.Mathlib.Omega.{arith}
 use native.Mathlib.Nat.{add-zero}
-use borrow.Author.Tests.{eqb-true, eqb-false, ne-eqb}
+use borrow.Author.Tests.{eqb-false, ne-eqb}
 use mathlib.Core.Path.{_≡_, refl, _∙_, sym, ap, subst}
 use mathlib.Core.Logic.{⊎-elim}
-use mathlib.Core.Bool.{Bool, true, false, cond, true≢false}
+use mathlib.Core.Bool.{true, false, true≢false}
 use mathlib.Core.List.{List}
 use Prim.Native.Nat.{ℕ, _+_, _<_, _≤_}
 use lib.Dec.{eqb}
@@ -12,23 +12,25 @@ use lib.ListN.{length, getD}
 use Rattle.telling.proofs.Telling.{side}
 use Rattle.refusal.specs.Heading.{version, count, Known}
 use Rattle.nodes.specs.declared.Raw.{Raw}
-use Rattle.nodes.specs.Operators.{none, boolean, sequence, property, newest, operators, lookup, rowOf}
+use Rattle.nodes.specs.Operators.{none, boolean, sequence, property, base, operators, lookup, rowOf}
 use Rattle.nodes.specs.Nodes.{rawAt, rowAt, sortAt, Operand, KnownIn, WellFormed}
 use Rattle.nodes.specs.NodeClock.{Ref, onR}
 use Rattle.nodes.proofs.Built.{Built}
 use Rattle.nodes.proofs.Placing.{fine-row}
+use Rattle.nodes.proofs.Fits.{right-fit, zero-fourth, Lower}
 use Rattle.clocks.specs.Clocks.{Clocks, isClock}
 use Rattle.clocks.proofs.Timing.{clock-boolean}
 use Rattle.numbers.specs.Numbers.{isBoolean, newCount, startOf, numberOf}
-use Rattle.blocks.specs.Blocks.{moved, movedNode}
-use Rattle.blocks.specs.Computed.{blank}
+use Rattle.encoding.specs.Moved.{moved, movedNode}
+use Rattle.encoding.specs.Encoding.{blank}
+use Rattle.encoding.proofs.Renumbering.{operand-moved}
 use Rattle.blocks.proofs.Viewing.{none-is, single-is, letter-is, next-is, until-is, View, of-none, of-single, of-letter, of-next, of-until, view}
 use Rattle.writing.specs.Tables.{blockOf, newTable}
 use Rattle.rewrite.proofs.Cells.{version-new, cell-at, cell-sort, stands-sort}
 use Rattle.rewrite.proofs.Ordering.{other-is, boolean-before, other-before, found}
-use Rattle.rewrite.proofs.Fitting.{AllFrom, all-at, Right, Lower, lower, Sorted, letter-right, next-right, until-right}
+use Rattle.rewrite.proofs.Fitting.{AllFrom, all-at, Blocked, Sorted, letter-right, next-right, until-right}
 
-module _ (s : List ℕ) (ok : Built s) (clock : ℕ → Ref) (right : Clocks s clock) where
+module _ (s : List ℕ) (ok : Built s) (known : Known base (version s)) (clock : ℕ → Ref) (right : Clocks s clock) where
   abbrev t : List ℕ
   t = newTable s clock
 
@@ -38,8 +40,8 @@ module _ (s : List ℕ) (ok : Built s) (clock : ℕ → Ref) (right : Clocks s c
   same-version : version t ≡ version s
   same-version = version-new s clock (let l = ok .long in omega arith)
 
-  pub versions : Known newest (version t)
-  versions = subst (Known newest) (sym same-version) (ok .known)
+  pub versions : Known base (version t)
+  versions = subst (Known base) (sym same-version) known
 
   module _ (k : ℕ) (h : k < count s) where
     abbrev at : ℕ
@@ -64,26 +66,24 @@ module _ (s : List ℕ) (ok : Built s) (clock : ℕ → Ref) (right : Clocks s c
         (side sort sequence)
 
     operand-new : (sort limit v : ℕ) → Operand s k sort limit v → (sequence ≤ sort → sequence ≤ sortAt s k) → Operand t at sort limit (moved ν sort v)
-    unfolding moved
-    operand-new sort limit v o u = go (eqb sort none) refl
-      where
-        go : (b : Bool) → eqb sort none ≡ b → Operand t at sort limit (cond b v (ν v))
-        go true e = let z = eqb-true sort none e in record { number = o .number; below = λ y. absurd (y z); sorted = λ y. absurd (y z) }
-        go false e = let z = eqb-false sort none e in lower t at limit (ν v) z (operand-lower v sort z (o .below z) (o .sorted z) u)
+    operand-new sort limit v o u = operand-moved ν s t k at sort limit v o (λ z. operand-lower v sort z (o .below z) (o .sorted z) u)
 
     -- ---- a node that is copied
 
-    copied-right : eqb (rowAt s k .block) 0 ≡ false → Right t at (movedNode ν raw)
+    copied-right : eqb (rowAt s k .block) 0 ≡ false → Blocked t at (movedNode ν raw)
     unfolding movedNode sortAt
     copied-right e =
         let w = ok .fit k h in
         record {
-          known = w .known;
-          inVersion = subst (KnownIn (rowAt s k)) (sym same-version) (w .inVersion);
-          x = operand-new (rowAt s k .x) (rowAt s k .limit) (raw .x) (w .x) (fine-row (raw .op) .1);
-          y = operand-new (rowAt s k .y) 1 (raw .y) (w .y) (fine-row (raw .op) .2);
-          fourth = refl;
-          blocked = eqb-false (rowAt s k .block) 0 e;
+          right =
+              record {
+                known = w .known;
+                inVersion = subst (KnownIn (rowAt s k)) (sym same-version) (w .inVersion);
+                x = operand-new (rowAt s k .x) (rowAt s k .limit) (raw .x) (w .x) (fine-row (raw .op) .1);
+                y = operand-new (rowAt s k .y) 1 (raw .y) (w .y) (fine-row (raw .op) .2);
+                fourth = zero-fourth _;
+              };
+          block = eqb-false (rowAt s k .block) 0 e;
         }
 
     -- ---- a block of its own
@@ -103,22 +103,19 @@ module _ (s : List ℕ) (ok : Built s) (clock : ℕ → Ref) (right : Clocks s c
             let (l, b) = clock-boolean s ok clock right k c ec in
             boolean-lower c l b (λ e. absurd (true≢false (sym e ∙ other-is s k upper)))
 
+        operand-of : {place limit v sort : ℕ} → Operand s k place limit v → place ≡ sort → ¬ (sort ≡ none) → Lower t at sort (ν v)
+        operand-of {v = v} {sort = sort} o q z = operand-lower v sort z (o .below (λ y. z (sym q ∙ y))) (o .sorted (λ y. z (sym q ∙ y)) ∙ q) (λ _. upper)
+
         operand-x : (sort : ℕ) → rowOf op .x ≡ sort → ¬ (sort ≡ none) → Lower t at sort (ν (raw .x))
-        operand-x sort e z =
-            let q : rowAt s k .x ≡ sort = ap (λ (o : ℕ). rowOf o .x) eo ∙ e in
-            let o = ok .fit k h .x in
-            operand-lower (raw .x) sort z (o .below (λ y. z (sym q ∙ y))) (o .sorted (λ y. z (sym q ∙ y)) ∙ q) (λ _. upper)
+        operand-x sort e = operand-of (ok .fit k h .x) (ap (λ (o : ℕ). rowOf o .x) eo ∙ e)
 
         operand-y : (sort : ℕ) → rowOf op .y ≡ sort → ¬ (sort ≡ none) → Lower t at sort (ν (raw .y))
-        operand-y sort e z =
-            let q : rowAt s k .y ≡ sort = ap (λ (o : ℕ). rowOf o .y) eo ∙ e in
-            let o = ok .fit k h .y in
-            operand-lower (raw .y) sort z (o .below (λ y. z (sym q ∙ y))) (o .sorted (λ y. z (sym q ∙ y)) ∙ q) (λ _. upper)
+        operand-y sort e = operand-of (ok .fit k h .y) (ap (λ (o : ℕ). rowOf o .y) eo ∙ e)
 
     -- ---- any
 
     abbrev All : List Raw → Type 0
-    All = AllFrom (Right t) at 0
+    All = AllFrom (Blocked t) at 0
 
     block-all : All (blockOf s clock k)
     unfolding rowOf lookup operators
@@ -127,7 +124,7 @@ module _ (s : List ℕ) (ok : Built s) (clock : ℕ → Ref) (right : Clocks s c
         go : View (clock k) (raw .op) → All (blockOf s clock k)
         go (of-none z) = subst All (sym (none-is ν (clock k) at raw z)) tt
         go (of-single z q) =
-            subst All (sym (single-is ν (clock k) at raw z q)) (subst (λ (q : ℕ). Right t q (movedNode ν raw)) (sym (add-zero at)) (copied-right z), tt)
+            subst All (sym (single-is ν (clock k) at raw z q)) (subst (λ (q : ℕ). Blocked t q (movedNode ν raw)) (sym (add-zero at)) (copied-right z), tt)
         go (of-letter c e o) =
             let z = letter-is ν (clock k) at raw c e o in
             subst All (sym z)
@@ -144,18 +141,17 @@ module _ (s : List ℕ) (ok : Built s) (clock : ℕ → Ref) (right : Clocks s c
 
   -- ---- the whole table
 
-  new-right : (q : ℕ) → q < newCount s clock → Right t q (rawAt t q)
+  new-right : (q : ℕ) → q < newCount s clock → Blocked t q (rawAt t q)
   new-right q l =
       let (k, i, h, a, e) = found s clock (ok .fit) q l in
-      let r = all-at (Right t) (startOf s clock k) 0 (blockOf s clock k) (block-all k h) i a in
+      let r = all-at (Blocked t) (startOf s clock k) 0 (blockOf s clock k) (block-all k h) i a in
       let z : startOf s clock k + (0 + i) ≡ q = omega arith in
       let c : getD (blockOf s clock k) i blank ≡ rawAt t q = sym (cell-at s clock (ok .fit) k i h a) ∙ ap (rawAt t) (sym e) in
-      subst (λ (p : ℕ). Right t p (rawAt t q)) z (subst (Right t (startOf s clock k + (0 + i))) c r)
+      subst (λ (p : ℕ). Blocked t p (rawAt t q)) z (subst (Blocked t (startOf s clock k + (0 + i))) c r)
 
   pub new-fit : (q : ℕ) → q < newCount s clock → WellFormed t q
-  unfolding sortAt
-  new-fit q l = let r = new-right q l in record { known = r .known; inVersion = r .inVersion; x = r .x; y = r .y; fourth = r .fourth }
+  new-fit q l = right-fit t q refl (new-right q l .right)
 
   pub new-clockless : (q : ℕ) → q < newCount s clock → isClock t q ≡ false
   unfolding isClock
-  new-clockless q l = ne-eqb (rowAt t q .block) 0 (new-right q l .blocked)
+  new-clockless q l = ne-eqb (rowAt t q .block) 0 (new-right q l .block)

@@ -11,12 +11,14 @@ use Rattle.nodes.specs.declared.Raw.{Raw}
 use Rattle.nodes.specs.Operators.{none, boolean, operators, lookup, rowOf, bytesOf, booleanBytes, sequenceBytes, propertyBytes}
 use Rattle.nodes.specs.Nodes.{hitsOf}
 use Rattle.nodes.specs.NodeClock.{Ref, onR}
+use Rattle.nodes.proofs.Placing.{ind}
 use Rattle.numbers.specs.Numbers.{sum}
 use Rattle.numbers.proofs.Sums.{sum-first}
-use Rattle.blocks.specs.Blocks.{letterBlock, nextBlock, untilBlock, moved, movedNode, blockUnder}
-use Rattle.blocks.specs.Computed.{blank}
+use Rattle.encoding.specs.Moved.{moved, movedNode}
+use Rattle.blocks.specs.Blocks.{letterBlock, nextBlock, untilBlock, blockUnder}
+use Rattle.encoding.specs.Encoding.{blank}
 use Rattle.blocks.proofs.Viewing.{none-is, single-is, letter-is, next-is, until-is, View, of-none, of-single, of-letter, of-next, of-until, view}
-use Rattle.rewrite.proofs.Tallies.{ind, heldIn}
+use Rattle.rewrite.proofs.Tallies.{heldIn}
 use Rattle.rewrite.proofs.Tiling.{within, none-within, spread}
 
 -- ---- the operand places of a list of nodes

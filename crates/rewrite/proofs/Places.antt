@@ -13,16 +13,17 @@ use Rattle.nodes.specs.Operators.{boolean, sequence}
 use Rattle.nodes.specs.Nodes.{rawAt, rowAt, sortAt, root, placesOf, usesOf}
 use Rattle.nodes.specs.NodeClock.{Ref}
 use Rattle.nodes.proofs.Built.{Built}
+use Rattle.nodes.proofs.Placing.{ind}
 use Rattle.clocks.specs.Clocks.{Clocks, isClock}
 use Rattle.clocks.proofs.Timing.{clock-boolean}
 use Rattle.numbers.specs.Numbers.{sum, isBoolean, isOther, lengthOf, newCount, startOf, numberOf}
 use Rattle.numbers.proofs.Sums.{sum-same, sum-plus, sum-split}
 use Rattle.numbers.proofs.Numbering.{some-under, none-under, stands-last, stands-operand}
-use Rattle.blocks.specs.Computed.{blank}
+use Rattle.encoding.specs.Encoding.{blank}
 use Rattle.writing.specs.Tables.{blockOf, laid, newNodes, newTable}
 use Rattle.writing.proofs.Lengths.{block-long, length-new}
 use Rattle.rewrite.proofs.Cells.{raw-at, cell-sort, stands-sort}
-use Rattle.rewrite.proofs.Tallies.{ind, uses-sum, heldBy, held-once}
+use Rattle.rewrite.proofs.Tallies.{uses-sum, heldBy, held-once}
 use Rattle.rewrite.proofs.Tiling.{within, in-one, more-within}
 use Rattle.rewrite.proofs.Hits.{hitsBy, hitsIn, inner, hits-append, hits-sum, under-hits}
 

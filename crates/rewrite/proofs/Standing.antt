@@ -3,31 +3,36 @@ use native.Mathlib.Omega.{arith}
 use native.Mathlib.Nat.{add-zero}
 use mathlib.Core.Path.{_≡_, _∙_, sym, ap, subst}
 use mathlib.Core.Logic.{inl, inr}
-use mathlib.Core.Bool.{false}
+use mathlib.Core.Bool.{Bool, false, _&&_}
 use mathlib.Core.List.{List, map}
 use Prim.Native.Nat.{ℕ, _+_, _-_, _<_}
-use lib.Dec.{T, eqb, ltb, ltb→lt}
+use lib.Dec.{T, eqb, ltb}
 use lib.ListN.{length, getD, length-map, List·getD-map}
+use Rattle.telling.proofs.Telling.{is-and, is-lt, is-test}
 use Rattle.refusal.specs.Heading.{count}
 use Rattle.nodes.specs.declared.Raw.{Raw}
 use Rattle.nodes.specs.declared.Node.{Node}
 use Rattle.nodes.specs.Operators.{rowOf, nodeOf, bytesOf}
 use Rattle.nodes.specs.Nodes.{rawAt, nodeAt, WellFormed}
 use Rattle.nodes.specs.NodeClock.{Ref, freeR, onR}
-use Rattle.nodes.proofs.Coded.{decoded}
-use Rattle.nodes.proofs.Coded.{coded-as}
+use Rattle.nodes.proofs.Coded.{coded-as, isBase, decoded}
 use Rattle.clocks.specs.Clocks.{isClock}
 use Rattle.numbers.specs.Numbers.{startOf, numberOf}
-use Rattle.blocks.specs.Blocks.{movedNode, blockUnder}
-use Rattle.blocks.specs.Computed.{blankNode, blank}
+use Rattle.encoding.specs.Moved.{movedNode}
+use Rattle.blocks.specs.Blocks.{blockUnder}
+use Rattle.encoding.specs.Encoding.{blankNode, blank}
 use Rattle.blocks.proofs.Viewing.{listed, Single, single-is}
 use Rattle.writing.specs.Tables.{blockOf, newTable}
 use Rattle.rewrite.proofs.Cells.{cell-at, last-at}
 
+-- us has a node i, of a base operator
+abbrev pub basedAt : List Node → ℕ → Bool
+basedAt us i = ltb i (length us) && isBase (getD us i blankNode)
+
 -- the nodes us stand in the new table as the block of node k
 pub record Block (s : List ℕ) (clock : ℕ → Ref) (k : ℕ) (us : List Node) : Type 0 where
-  pub cell : (i : ℕ) → T (ltb i (length us)) → nodeAt (newTable s clock) (startOf s clock k + i) ≡ getD us i blankNode
-  pub first : T (ltb 0 (length us)) → nodeAt (newTable s clock) (startOf s clock k) ≡ getD us 0 blankNode
+  pub cell : (i : ℕ) → T (basedAt us i) → nodeAt (newTable s clock) (startOf s clock k + i) ≡ getD us i blankNode
+  pub first : T (basedAt us 0) → nodeAt (newTable s clock) (startOf s clock k) ≡ getD us 0 blankNode
   pub last : numberOf s clock k ≡ startOf s clock k + (length us - 1)
 
 module _ (s : List ℕ) (clock : ℕ → Ref) (fit : (k : ℕ) → k < count s → WellFormed s k) (k : ℕ) (h : k < count s) {v : Node} (e : nodeAt s k ≡ v) where
@@ -70,14 +75,15 @@ module _ (s : List ℕ) (clock : ℕ → Ref) (fit : (k : ℕ) → k < count s �
     long : length (blockOf s clock k) ≡ length us
     long = ap length block-is ∙ length-map us bytesOf
 
-    cells : (i : ℕ) → i < length us → N (startOf s clock k + i) ≡ getD us i blankNode
-    cells i l =
+    cells : (i : ℕ) → T (basedAt us i) → N (startOf s clock k + i) ≡ getD us i blankNode
+    cells i t =
+        let (l, b) = is-and (is-lt i (length us)) (is-test (isBase (getD us i blankNode))) .to t in
         ap nodeOf (cell-at s clock fit k i h (let e = long in omega arith) ∙ ap (λ (rs : List Raw). getD rs i blank) block-is ∙ List·getD-map bytesOf us i blankNode)
-        ∙ decoded (getD us i blankNode)
+        ∙ decoded (getD us i blankNode) b
 
     pub block : Block s clock k us
     block = record {
-      cell = λ i l. cells i (ltb→lt i (length us) l);
-      first = λ l. ap N (sym (add-zero (startOf s clock k))) ∙ cells 0 (ltb→lt 0 (length us) l);
+      cell = cells;
+      first = λ t. ap N (sym (add-zero (startOf s clock k))) ∙ cells 0 t;
       last = last-at s clock fit k h (no-clock z) .1 ∙ (let e = long in omega arith);
     }

@@ -8,42 +8,19 @@ use Prim.Native.Nat.{ℕ, zero, suc, _+_, _<_, _≤_}
 use lib.Dec.{eqb}
 use Rattle.refusal.specs.Heading.{count}
 use Rattle.nodes.specs.Operators.{none, sequence}
-use Rattle.nodes.specs.Nodes.{rawAt, rowAt, sortAt, root, WellFormed, hitsOf, placesOf, usesOf}
+use Rattle.nodes.specs.Nodes.{rawAt, rowAt, sortAt, root, hitsOf, placesOf, usesOf}
+use Rattle.nodes.proofs.Placing.{ind, unused}
 use Rattle.nodes.proofs.Built.{Built}
 use Rattle.clocks.specs.Clocks.{isClock}
 use Rattle.clocks.proofs.Timing.{clock-row}
 use Rattle.numbers.specs.Numbers.{sum}
 use Rattle.numbers.proofs.Sums.{sum-zero, sum-same, sum-plus, sum-split, sum-swap, sum-one}
 
--- 1 where the test passes
-abbrev pub ind : Bool → ℕ
-ind b = cond b 1 0
-
 -- the uses of a node are a sum over the nodes
 pub uses-sum : (s : List ℕ) (x n : ℕ) → usesOf s x n ≡ sum (placesOf s x) n
 unfolding usesOf sum
 uses-sum s x zero = refl
 uses-sum s x (suc n) = ap (λ (a : ℕ). a + placesOf s x n) (uses-sum s x n)
-
--- an operand that lies below x is not x
-no-hit : (sort v x : ℕ) → (¬ (sort ≡ none) → v < x) → hitsOf sort v x ≡ 0
-unfolding hitsOf
-no-hit sort v x h = go (eqb sort none) refl
-  where
-    go : (b : Bool) → eqb sort none ≡ b → cond b 0 (ind (eqb v x)) ≡ 0
-    go true e = refl
-    go false e = let l = h (eqb-false sort none e) in rw (ne-eqb v x (λ q. omega arith))
-
--- the last node, and what is past it, is in no place of well-formed nodes
-pub top-unused : (s : List ℕ) (x n : ℕ) → ((k : ℕ) → k < n → WellFormed s k) → n ≤ suc x → usesOf s x n ≡ 0
-top-unused s x n fit h =
-    uses-sum s x n
-    ∙ sum-zero (placesOf s x) n
-    (λ k l.
-    let w = fit k l in
-    let p = no-hit (rowAt s k .x) (rawAt s k .x) x (λ z. let b = w .x .below z in omega arith) in
-    let q = no-hit (rowAt s k .y) (rawAt s k .y) x (λ z. let b = w .y .below z in omega arith) in
-    omega arith)
 
 -- 1 where the byte v is an operand, of a sort, and passes the test
 unfoldable pub heldIn : (ℕ → Bool) → ℕ → ℕ → ℕ
@@ -109,7 +86,7 @@ module _ (s : List ℕ) (ok : Built s) (A : ℕ → Bool) (high : (x : ℕ) → 
       ∙ sum-same (λ k. sum (λ x. cond (A x) (placesOf s x k) 0) n) (heldBy s A) n places-held
 
   root-unused : usesOf s (root s) n ≡ 0
-  root-unused = top-unused s (root s) n (ok .fit) (omega arith)
+  root-unused = unused s (root s) n (omega arith) (ok .fit)
 
   -- a node that passes is in one place, or is the root
   used-once : (x : ℕ) → x < n → cond (A x) (usesOf s x n) 0 + cond (eqb (root s) x) (ind (A x)) 0 ≡ ind (A x)

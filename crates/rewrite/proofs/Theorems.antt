@@ -61,7 +61,7 @@ module _ (s : List ℕ) (v : Verdict) (c : Checks s v) (z : v .number ≡ 0) (cl
   rewriting-keeps = record {
     checks = λ l. new-checks s ok clock right (let e = count-new s ok clock right in omega arith);
     copied = version-new s clock (let l = ok .formed .long in omega arith);
-    clockless = λ k l. new-clockless s (ok .formed) clock right k (let e = count-new s ok clock right in omega arith);
+    clockless = λ k l. new-clockless s (ok .formed) (ok .known) clock right k (let e = count-new s ok clock right in omega arith);
     sequence = sequence-root s ok clock right;
     property = property-root s ok clock right;
     matches = λ r q d e w i j. subst (λ (q : Seq Atom). Match reading free r w i j ↔ Match reading free q w i j) (same-sequence r q d e) (match-rew reading free r w i j);

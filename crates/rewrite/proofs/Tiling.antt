@@ -12,10 +12,10 @@ use lib.Dec.{eqb, leb, ltb}
 use Rattle.telling.proofs.Telling.{side}
 use Rattle.refusal.specs.Heading.{count}
 use Rattle.nodes.specs.NodeClock.{Ref}
+use Rattle.nodes.proofs.Placing.{ind}
 use Rattle.numbers.specs.Numbers.{sum, isBoolean, isOther, lengthOf, newCount, taken, startOf}
 use Rattle.numbers.proofs.Sums.{sum-split}
 use Rattle.numbers.proofs.Numbering.{count-split}
-use Rattle.rewrite.proofs.Tallies.{ind}
 
 -- q is in the stretch of l numbers from a on
 unfoldable pub within : ℕ → ℕ → ℕ → Bool

@@ -7,29 +7,36 @@ use mathlib.Core.List.{List, map}
 use Prim.Native.Nat.{ℕ, _<_}
 use lib.Dec as Dec
 use lib.Dec.{eqb, leb, leb→le}
-use Rattle.refusal.specs.Heading.{count}
+use Rattle.refusal.specs.Heading.{version, count, Known}
 use Rattle.meaning.specs.Syntax.{Bexp, Seq, Prop, Clock}
 use Rattle.meaning.specs.Rewriting.{rewS, rewP}
 use Rattle.meaning.specs.Pairs.{Atom}
 use Rattle.nodes.specs.declared.Raw.{Raw}
 use Rattle.nodes.specs.declared.Node.{Node}
-use Rattle.nodes.specs.Operators.{sequence, operators, lookup, rowOf, nodeOf, bytesOf, booleanBytes, sequenceBytes, propertyBytes}
+use Rattle.nodes.specs.declared.Node.the-variants.{Sequence, Property}
+use Rattle.nodes.specs.declared.SequenceOp.the-variants.{Derived}
+use Rattle.nodes.specs.declared.PropertyOp.the-variants.{Defined}
+use Rattle.nodes.specs.declared.DerivedSequence.{DerivedSequence}
+use Rattle.nodes.specs.declared.DerivedProperty.{DerivedProperty}
+use Rattle.nodes.specs.Operators.{sequence, base, operators, lookup, rowOf, nodeOf, bytesOf, booleanBytes, sequenceBytes, propertyBytes}
 use Rattle.nodes.specs.Nodes.{rawAt, nodeAt}
 use Rattle.nodes.specs.NodeClock.{Ref, freeR, onR, handed}
-use Rattle.table.specs.Trees.{BooleanAt, b-const, b-sig, b-risen, b-fallen, b-not, b-and, b-or, SequenceAt, s-one, s-cat, s-fuse, s-alt, s-empty, s-plus, s-clock, PropertyAt, p-strong, p-weak, p-neg, p-either, p-both, p-imp, p-next, p-until, p-clock, ClockAt, c-free, c-on}
+use Rattle.table.specs.Trees.{BooleanAt, b-const, b-sig, b-risen, b-fallen, b-not, b-and, b-or, SequenceAt, s-one, s-cat, s-fuse, s-alt, s-empty, s-plus, s-clock, s-repeated, s-delayed, s-goto, s-nonconsecutive, PropertyAt, p-strong, p-weak, p-neg, p-either, p-both, p-imp, p-next, p-until, p-clock, p-implies-next, p-followed, p-followed-next, p-always, p-eventually, p-strong-until, p-strong-next, ClockAt, c-free, c-on}
 use Rattle.nodes.proofs.Built.{Built}
 use Rattle.nodes.proofs.Coded.{coded-as}
+use Rattle.nodes.proofs.Based.{not-derived, not-defined}
 use Rattle.nodes.proofs.Shapes.{Formed, Suits, down}
 use Rattle.clocks.specs.Clocks.{Clocks, isClock}
 use Rattle.clocks.proofs.Timing.{part-clock, clock-boolean}
 use Rattle.numbers.specs.Numbers.{startOf, numberOf}
 use Rattle.numbers.proofs.Numbering.{stands-operand}
-use Rattle.blocks.specs.Blocks.{letterBlock, nextBlock, untilBlock, underBlock, moved, movedNode, movedBlock, blockUnder}
+use Rattle.encoding.specs.Moved.{moved, movedNode}
+use Rattle.blocks.specs.Blocks.{letterBlock, nextBlock, untilBlock, underBlock, movedBlock, blockUnder}
 use Rattle.blocks.proofs.Viewing.{listed}
 use Rattle.writing.specs.Tables.{newTable}
 use Rattle.rewrite.proofs.Standing.{Block, copy-else, copy-free, block}
 
-module _ (s : List ℕ) (ok : Built s) (clock : ℕ → Ref) (right : Clocks s clock) where
+module _ (s : List ℕ) (ok : Built s) (known : Known base (version s)) (clock : ℕ → Ref) (right : Clocks s clock) where
   abbrev n : ℕ
   n = count s
 
@@ -46,6 +53,13 @@ module _ (s : List ℕ) (ok : Built s) (clock : ℕ → Ref) (right : Clocks s c
 
   pub goes : {k : ℕ} {v : Node} → k < n → T k ≡ v → Formed (Suits s k) v
   goes {k} l e = down s k (ok .fit k l) e
+
+  -- which is not derived
+  pub no-derived : {k : ℕ} {o : DerivedSequence} → k < n → ¬ (T k ≡ Sequence (Derived o))
+  no-derived {k} l e = not-derived s k (ok .fit k l) (known .1) e
+
+  pub no-defined : {k : ℕ} {o : DerivedProperty} → k < n → ¬ (T k ≡ Property (Defined o))
+  no-defined {k} l e = not-defined s k (ok .fit k l) (known .1) e
 
   pub inside : {k x sort : ℕ} → k < n → Suits s k sort x → x < n
   inside l g = let b = g .0 in omega arith
@@ -115,6 +129,10 @@ module _ (s : List ℕ) (ok : Built s) (clock : ℕ → Ref) (right : Clocks s c
   sequence-stands (s-empty e d) h c = s-empty (copied (h .0) e refl refl) (sequence-stands d (part h e (goes (h .0) e) tt) c)
   sequence-stands (s-plus e d) h c = s-plus (copied (h .0) e refl refl) (sequence-stands d (part h e (goes (h .0) e) tt) c)
   sequence-stands (s-clock e b d) h c = rw (drops (h .0) e refl) (sequence-stands d (part h e (goes (h .0) e .1) tt) (c-on b))
+  sequence-stands (s-repeated e d) h c = absurd (no-derived (h .0) e)
+  sequence-stands (s-delayed e d f) h c = absurd (no-derived (h .0) e)
+  sequence-stands (s-goto e d) h c = absurd (no-derived (h .0) e)
+  sequence-stands (s-nonconsecutive e d) h c = absurd (no-derived (h .0) e)
 
   -- ---- properties
 
@@ -148,3 +166,10 @@ module _ (s : List ℕ) (ok : Built s) (clock : ℕ → Ref) (right : Clocks s c
       let at-tick = p-both (w .cell 7 tt) (p-strong (w .cell 6 tt) (s-one (w .cell 5 tt) o)) (property-stands f (part h e j tt) (c-on b)) in
       rw (w .last) (p-until (w .cell 8 tt) (p-neg (w .cell 4 tt) left) at-tick)
   property-stands (p-clock e b d) h c = rw (drops (h .0) e refl) (property-stands d (part h e (goes (h .0) e .1) tt) (c-on b))
+  property-stands (p-implies-next e d f) h c = absurd (no-defined (h .0) e)
+  property-stands (p-followed e d f) h c = absurd (no-defined (h .0) e)
+  property-stands (p-followed-next e d f) h c = absurd (no-defined (h .0) e)
+  property-stands (p-always e d) h c = absurd (no-defined (h .0) e)
+  property-stands (p-eventually e d) h c = absurd (no-defined (h .0) e)
+  property-stands (p-strong-until e d f) h c = absurd (no-defined (h .0) e)
+  property-stands (p-strong-next e d) h c = absurd (no-defined (h .0) e)

@@ -14,14 +14,14 @@ use Rattle.telling.proofs.Telling.{side, leb-same}
 use Rattle.positions.specs.Member.{has, Is}
 use Rattle.positions.proofs.Laws.{has-none}
 use Rattle.nodes.specs.declared.SequenceOp.{SequenceOp}
-use Rattle.nodes.specs.declared.SequenceOp.the-variants.{Letter, Either, Clocked}
+use Rattle.nodes.specs.declared.SequenceOp.the-variants.{Letter, Either}
 use Rattle.matches.specs.declared.Found.{Found}
 use Rattle.cells.specs.Shares.{share, topWord, longest, wordIn, HasRow}
 use Rattle.cells.specs.Bits.{sequenceBit, goesOn, startsOpen, topBit}
 use Rattle.cells.specs.Ready.{readySequence}
 use Rattle.matches.specs.Shapes.{Finds}
 use Rattle.cells.specs.Stored.{tab, withRow, None, Stored}
-use Rattle.sequences.specs.Made.{sequenceWord, EndsOf, Made}
+use Rattle.sequences.specs.Made.{sequenceWord, EndsOf, Made, NoneMade}
 use Rattle.cells.proofs.Laying.{below-share, word-is, with-row-is, stored-none, stored-up, stored-down, stored-as, rows-stored}
 
 -- ---- a set whose places n, n - 1, .. are decided one after the other: those from i to n are
@@ -82,14 +82,16 @@ pub either-ends : (rows : List ℕ) (n a b i x y v : ℕ) → x ≡ wordIn rows 
     → Is v (sequenceBit rows n (Either a b) i)
 either-ends rows n a b i x y v ex ey ev j = rw (← ex, ← ey) (ev j)
 
-none-ends : (rows : List ℕ) (n c a m x : ℕ) → x ≡ 0 → EndsOf rows n (Clocked c a) m x
-none-ends rows n c a m x e = (omega arith, λ j. rw e (has-none j))
-
 -- ---- the workspace while a row is made
 
 -- the match goes on from start j
 abbrev pub on : List ℕ → ℕ → SequenceOp → ℕ → Bool
 on rows n op j = goesOn rows op (sequenceBit rows n op j) j
+
+-- of an operator that never goes on, no start is decided
+never-on : (d : List ℕ) (k n : ℕ) (op : SequenceOp) → ((j : ℕ) → on (take (share * k) d) n op j ≡ false) → (j : ℕ)
+    → false ≡ ((leb 0 j && leb j n) && on (take (share * k) d) n op j)
+never-on d k n op off j = sym (ap (λ b. (leb 0 j && leb j n) && b) (off j) ∙ and-false (leb 0 j && leb j n))
 
 -- ws is what the workspace d has become while share k is filled: the rows below are as they were
 pub record Lent (d : List ℕ) (k n : ℕ) (ws : List ℕ) : Type 0 where
@@ -133,10 +135,7 @@ module _ {d ws : List ℕ} {k n i : ℕ} {op : SequenceOp} (u : Up d k n op i ws
 
   pub up-all : (tops : ℕ) → i ≡ n + 1 → ((j : ℕ) → on (take (share * k) d) n op j ≡ false) → Is tops (λ j. false) → Made d k n op 0 tops ws
   up-all tops e off h =
-      record {
-        words = rw (← e) (u .words);
-        decided = λ j. h j ∙ sym (ap (λ b. (leb 0 j && leb j n) && b) (off j) ∙ and-false (leb 0 j && leb j n));
-      }
+      record { words = rw (← e) (u .words); decided = λ j. h j ∙ never-on d k n op off j }
 
 -- ---- a loop from the last start down: the words i to n are stored, and the starts i to n are decided
 
@@ -213,8 +212,11 @@ module _ {d ws : List ℕ} {k n tops : ℕ} {op : SequenceOp} (l : Lent d k n ws
           (λ (v : j ≤ n). let w = m .words .there j (omega arith) (omega arith) in rw (le-leb j n v) (c .stay (share * k + j) (inl (omega arith)) ∙ getD-set-other ws (share * k + topWord) (share * k + j) t 0 (λ z. omega arith) ∙ word-is (getD ws (share * k + j) 0) _ (w .0) (w .1)))
           (side n j)
 
--- a clock node's row, of which no word has a place
-pub clocked-made : (d : List ℕ) (k n c a tops : ℕ) (ws : List ℕ) → HasRow (length d) k → n ≤ longest → Stored None d (share * k) 0 (n + 1) ws
-    → Is tops (λ j. false) → Made d k n (Clocked c a) 0 tops ws
-clocked-made d k n c a tops ws within short w h =
-    up-all (record { its = stored-lent within short w; upto = omega arith; words = stored-as None _ d _ _ _ ws (none-ends (take (share * k) d) n c a) w }) tops refl (λ j. refl) h
+-- the row of an operator that has no match and never goes on: no word has a place
+pub none-made : {d ws : List ℕ} {k n tops : ℕ} (op : SequenceOp) → ((i j : ℕ) → sequenceBit (take (share * k) d) n op i j ≡ false)
+    → ((j : ℕ) → on (take (share * k) d) n op j ≡ false) → NoneMade d k n tops ws → Made d k n op 0 tops ws
+none-made {d = d} {ws = ws} {k = k} {n = n} op bare off m =
+    record {
+      words = stored-as None _ d _ _ _ ws (λ i x e. (omega arith, λ j. rw (e, bare i j) (has-none j))) (m .words);
+      decided = λ j. m .decided j ∙ never-on d k n op off j;
+    }

@@ -19,7 +19,7 @@ ghost use lib.ListN.{length, take};
 ghost use Rattle.cells.specs.Shares.{share, longest, HasRow};
 ghost use Rattle.cells.specs.Ready.{readySequence};
 ghost use Rattle.cells.specs.Stored.{tab, withRow};
-ghost use Rattle.sequences.specs.Made.{sequenceWord, Made};
+ghost use Rattle.sequences.specs.Made.{sequenceWord, Made, NoneMade};
 
 // A letter's match from i ends after i, where sample i satisfies b.
 fn put_letter(ws: &mut [u64], k: usize, b: usize, n: usize) -> PositionSet
@@ -118,10 +118,10 @@ fn put_repeat(ws: &mut [u64], k: usize, a: usize, n: usize) -> PositionSet
     tops
 }
 
-// A rewritten table has no clock node, so there is nothing to find of one.
-fn put_none(ws: &mut [u64], k: usize, c: usize, a: usize, n: usize) -> PositionSet
+// A rewritten table has no clock node, and a derived operator is expanded before, so there is nothing to find of one.
+fn put_none(ws: &mut [u64], k: usize, n: usize) -> PositionSet
     requires { ⌜ HasRow (length (now ws)) k × (n ≤ longest) ⌝ }
-    ensures { λ r. ⌜ Made (now (ws .entry)) k n (SequenceOp.Clocked c a) 0 (r .bits) (now (ws .exit)) ⌝ }
+    ensures { λ r. ⌜ NoneMade (now (ws .entry)) k n (r .bits) (now (ws .exit)) ⌝ }
 {
     clear(ws, SHARE * k, 0, n + 1);
     PositionSet::empty()
@@ -138,7 +138,8 @@ fn put_words(ws: &mut [u64], k: usize, op: SequenceOp, n: usize) -> PositionSet
         SequenceOp::Either(a, b) => put_either(ws, k, a, b, n),
         SequenceOp::Empty(a) => put_empty(ws, k, a, n),
         SequenceOp::Repeat(a) => put_repeat(ws, k, a, n),
-        SequenceOp::Clocked(c, a) => put_none(ws, k, c, a, n),
+        SequenceOp::Clocked(_, _) => put_none(ws, k, n),
+        SequenceOp::Derived(_) => put_none(ws, k, n),
     }
 }
 

@@ -7,10 +7,10 @@ use Prim.Native.Nat.{ℕ, _≤_}
 use lib.ListN.{drop}
 use Rattle.refusal.specs.declared.Verdict.{Verdict}
 use Rattle.refusal.specs.First.{Refusal, Answers, NotGiven}
-use Rattle.refusal.specs.Heading.{count}
+use Rattle.refusal.specs.Heading.{version, count, Known}
 use Rattle.refusal.specs.Computed.{accepted}
 use Rattle.refusal.proofs.Given.{none-given, not-given-append}
-use Rattle.nodes.specs.Operators.{sequence, property}
+use Rattle.nodes.specs.Operators.{sequence, property, base}
 use Rattle.nodes.specs.NodeClock.{Ref}
 use Rattle.table.specs.Check as Check
 use Rattle.table.specs.Check.{Checks}
@@ -39,6 +39,9 @@ module _ (s : List ℕ) (x : Refusal) (rest : List Refusal) (n : NotGiven (Check
 
   pub table-built : Built s
   table-built = sound s accepted table-checks refl .formed
+
+  pub table-known : Known base (version s)
+  table-known = sound s accepted table-checks refl .known
 
   pub same-clocks : (clock other : ℕ → Ref) → Clocks s clock → Clocks s other → clock ≡ other
   same-clocks = clocks-unique s table-built

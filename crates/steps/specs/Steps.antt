@@ -1,4 +1,5 @@
--- One step of the plain engine, as the code is held to it: a node's row by the rows of its operands. `walk/proofs` shows what it means. Assumes nothing.
+-- One step of the plain engine, as the code is held to it: a node's row by the rows of its operands. `walk/proofs` shows what it means. A derived operator
+-- is expanded before: no table here has one. Assumes nothing.
 use mathlib.Core.Path.{_≡_}
 use mathlib.Core.Bool.{Bool, true, false, not, cond, _||_, _&&_}
 use mathlib.Core.List.{List}
@@ -9,9 +10,9 @@ use Rattle.positions.specs.Member.{has, Is}
 use Rattle.positions.specs.declared.PositionSet.{PositionSet}
 use Rattle.meaning.specs.Words.{Tail}
 use Rattle.nodes.specs.declared.SequenceOp.{SequenceOp}
-use Rattle.nodes.specs.declared.SequenceOp.the-variants.{Letter, Then, Fused, Either, Empty, Repeat, Clocked}
+use Rattle.nodes.specs.declared.SequenceOp.the-variants.{Letter, Then, Fused, Either, Empty, Repeat, Clocked, Derived}
 use Rattle.nodes.specs.declared.PropertyOp.{PropertyOp}
-use Rattle.nodes.specs.declared.PropertyOp.the-variants.{Strong, Weak, Negated, AnyOf, BothOf, Implies, Next, Until, Ticked}
+use Rattle.nodes.specs.declared.PropertyOp.the-variants.{Strong, Weak, Negated, AnyOf, BothOf, Implies, Next, Until, Ticked, Defined}
 use Rattle.cells.specs.Shares.{share}
 use Rattle.cells.specs.Bits.{startsInto, negatedBit, impliesBit, nextBit, propertyBit}
 use Rattle.sequences.specs.Made.{sequenceWord}
@@ -33,6 +34,7 @@ sequenceClock (Either x y) c clock = clock
 sequenceClock (Empty x) c clock = clock
 sequenceClock (Repeat x) c clock = clock
 sequenceClock (Clocked b x) c clock = ownClock c
+sequenceClock (Derived o) c clock = clock
 
 abbrev pub propertyClock : PropertyOp → PositionSet → Ticks → Ticks
 propertyClock (Strong x) c clock = clock
@@ -44,6 +46,7 @@ propertyClock (Implies x y) c clock = clock
 propertyClock (Next x) c clock = clock
 propertyClock (Until x y) c clock = clock
 propertyClock (Ticked b x) c clock = ownClock c
+propertyClock (Defined o) c clock = clock
 
 -- ---- sequences
 
@@ -70,6 +73,7 @@ SequenceStep x y b t n (Either a c) r = PairRow x y (Either 0 1) n r
 SequenceStep x y b t n (Empty a) r = PairRow x y (Empty 0) n r
 SequenceStep x y b t n (Repeat a) r = PairRow x y (Repeat 0) n r
 SequenceStep x y b t n (Clocked c a) r = RowIn y 0 r
+SequenceStep x y b t n (Derived o) r = RowIn y 0 r
 
 -- ---- properties: f for each tail, and the positions X from which it is tested
 
@@ -101,3 +105,4 @@ PropertyStep x p q clock n (Implies a b) r = ToldBy (impliesBit x n 0 (told (q .
 PropertyStep x p q clock n (Next a) r = NextStep p clock n r
 PropertyStep x p q clock n (Until a b) r = UntilStep p q clock n r
 PropertyStep x p q clock n (Ticked c a) r = r ≡ q
+PropertyStep x p q clock n (Defined o) r = r ≡ q

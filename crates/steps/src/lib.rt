@@ -48,6 +48,8 @@ pub fn sequence_clock(op: SequenceOp, c: PositionSet, clock: Ticks) -> Ticks
             clocked: true,
             at: c,
         },
+        // A derived operator is expanded before: no table here has one.
+        SequenceOp::Derived(_) => clock,
     }
 }
 
@@ -68,6 +70,7 @@ pub fn property_clock(op: PropertyOp, c: PositionSet, clock: Ticks) -> Ticks
             clocked: true,
             at: c,
         },
+        PropertyOp::Defined(_) => clock,
     }
 }
 
@@ -91,6 +94,7 @@ pub fn sequence_step(
         SequenceOp::Empty(_) => pair_row(x, y, SequenceOp::Empty(0), n),
         SequenceOp::Repeat(_) => pair_row(x, y, SequenceOp::Repeat(0), n),
         SequenceOp::Clocked(_, _) => row_in(y, 0),
+        SequenceOp::Derived(_) => row_in(y, 0),
     }
 }
 
@@ -166,5 +170,6 @@ pub fn property_step(
         PropertyOp::Next(_) => next_step(p, clock, n),
         PropertyOp::Until(_, _) => until_step(p, q, clock, n),
         PropertyOp::Ticked(_, _) => q,
+        PropertyOp::Defined(_) => q,
     }
 }

@@ -1,5 +1,6 @@
 -- The positions from which each node of a clocked table is tested, place by place, from the rows of the rewritten table and the sets of the nodes below.
--- `rowmeaning/proofs` shows that each rule is what document 02 says. n is the number of samples. Assumes nothing.
+-- `rowmeaning/proofs` shows that each rule is what document 02 says. n is the number of samples. A derived operator is expanded before: no table here has one.
+-- Assumes nothing.
 use mathlib.Core.Path.{_≡_}
 use mathlib.Core.Bool.{Bool, false, not, cond, _||_, _&&_}
 use mathlib.Core.List.{List, [], _∷_, _++_}
@@ -13,9 +14,9 @@ use Rattle.nodes.specs.declared.Raw.{Raw}
 use Rattle.nodes.specs.declared.Node.{Node}
 use Rattle.nodes.specs.declared.Node.the-variants.{Boolean, Sequence, Property}
 use Rattle.nodes.specs.declared.SequenceOp.{SequenceOp}
-use Rattle.nodes.specs.declared.SequenceOp.the-variants.{Letter, Then, Fused, Either, Empty, Repeat, Clocked}
+use Rattle.nodes.specs.declared.SequenceOp.the-variants.{Letter, Then, Fused, Either, Empty, Repeat, Clocked, Derived}
 use Rattle.nodes.specs.declared.PropertyOp.{PropertyOp}
-use Rattle.nodes.specs.declared.PropertyOp.the-variants.{Strong, Weak, Negated, AnyOf, BothOf, Implies, Next, Until, Ticked}
+use Rattle.nodes.specs.declared.PropertyOp.the-variants.{Strong, Weak, Negated, AnyOf, BothOf, Implies, Next, Until, Ticked, Defined}
 use Rattle.nodes.specs.Nodes.{rawAt, nodeAt}
 use Rattle.nodes.specs.Computed.{namedBy}
 use Rattle.cells.specs.Shares.{longest, bitIn, HasRow}
@@ -70,6 +71,7 @@ propertyTested rows n at X Y (Implies r p) i = impliesTested rows n (at .a) X Y 
 propertyTested rows n at X Y (Next p) i = nextTested rows n (at .clock) (at .condition) X i
 propertyTested rows n at X Y (Until p q) i = untilTested rows n (isTick rows n (at .clock) (at .condition)) (at .a) (at .b) (λ k. X k || Y k) i
 propertyTested rows n at X Y (Ticked c p) i = Y i
+propertyTested rows n at X Y (Defined o) i = false
 
 -- the samples that a letter with no clock matches
 abbrev pub letterMatches : List ℕ → Standing → SequenceOp → ℕ → Bool
@@ -80,6 +82,7 @@ letterMatches rows at (Either r s) i = false
 letterMatches rows at (Empty r) i = false
 letterMatches rows at (Repeat r) i = false
 letterMatches rows at (Clocked c r) i = false
+letterMatches rows at (Derived o) i = false
 
 abbrev pub nodeTested : List ℕ → ℕ → Standing → (ℕ → Bool) → (ℕ → Bool) → Node → ℕ → Bool
 nodeTested rows n at X Y (Boolean o) i = false
@@ -121,6 +124,7 @@ sequenceThere w at (Either r s) = Unit {0}
 sequenceThere w at (Empty r) = Unit {0}
 sequenceThere w at (Repeat r) = Unit {0}
 sequenceThere w at (Clocked c r) = Unit {0}
+sequenceThere w at (Derived o) = Unit {0}
 
 abbrev pub propertyThere : ℕ → Standing → PropertyOp → Type 0
 propertyThere w at (Strong r) = Unit {0}
@@ -132,6 +136,7 @@ propertyThere w at (Implies r p) = HasRow w (at .a)
 propertyThere w at (Next p) = clockThere w (at .clock) (at .condition)
 propertyThere w at (Until p q) = HasRow w (at .a) × HasRow w (at .b) × clockThere w (at .clock) (at .condition)
 propertyThere w at (Ticked c p) = Unit {0}
+propertyThere w at (Defined o) = Unit {0}
 
 abbrev pub nodeThere : ℕ → Standing → Node → Type 0
 nodeThere w at (Boolean o) = Unit {0}

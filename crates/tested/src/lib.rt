@@ -135,6 +135,8 @@ fn property_set(
             )
         }
         PropertyOp::Ticked(_, _) => set_for(sets, y),
+        // A derived operator is expanded before: no table here has one.
+        PropertyOp::Defined(_) => PositionSet::empty(),
     }
 }
 
@@ -154,6 +156,7 @@ fn letter_set(rows: &[u64], numbers: &[u8], clock: u8, v: Raw, op: SequenceOp) -
         SequenceOp::Empty(_) => PositionSet::empty(),
         SequenceOp::Repeat(_) => PositionSet::empty(),
         SequenceOp::Clocked(_, _) => PositionSet::empty(),
+        SequenceOp::Derived(_) => PositionSet::empty(),
     }
 }
 

@@ -1,77 +1,77 @@
 -- The operands of a sequence or property node that was read and decoded: both bytes name nodes below it, where a byte that names no operand is 0.
 -- Assumes nothing.
-use mathlib.Core.Path.{_≡_, sym, subst, _∙_}
+use mathlib.Core.Path.{_≡_, sym, ap, subst, _∙_}
+use mathlib.Core.Bool.{Bool, _||_}
+use mathlib.Core.Logic.{⊎-elim}
 use mathlib.Core.List.{List}
 use Prim.Native.Nat.{ℕ, _+_, _*_, _<_, _≤_}
 use native.Mathlib.Omega.{arith}
+use native.Mathlib.Nat.{eq-zero-or-pos}
+use lib.Dec.{leb, leb→le}
+use borrow.Author.Tests.{lt-leb}
 use lib.ListN.{length}
 use Rattle.refusal.specs.Heading.{count}
+use Rattle.nodes.specs.declared.operators.Row.{Row}
 use Rattle.nodes.specs.declared.Raw.{Raw}
 use Rattle.nodes.specs.declared.Node.{Node}
 use Rattle.nodes.specs.declared.Node.the-variants.{Sequence, Property}
 use Rattle.nodes.specs.declared.SequenceOp.{SequenceOp}
-use Rattle.nodes.specs.declared.SequenceOp.the-variants.{Letter, Then, Fused, Either, Empty, Repeat, Clocked}
 use Rattle.nodes.specs.declared.PropertyOp.{PropertyOp}
-use Rattle.nodes.specs.declared.PropertyOp.the-variants.{Strong, Weak, Negated, AnyOf, BothOf, Implies, Next, Until, Ticked}
-use Rattle.nodes.specs.Operators.{Decodes, bytesOf, sequenceBytes, propertyBytes}
-use Rattle.nodes.specs.Nodes.{rawAt}
+use Rattle.nodes.specs.Operators.{none, sequence, operators, Decodes, bytesOf}
+use Rattle.nodes.specs.Nodes.{rawAt, rowAt, sortAt, WellFormed}
+use Rattle.nodes.proofs.Lookup.{row-passes}
 use Rattle.nodes.proofs.Coded.{coded-as, read-as}
-use Rattle.nodes.proofs.Shapes.{Formed, Suits, down}
+use Rattle.nodes.proofs.Shapes.{sortOf, sort-is}
 use Rattle.walk.specs.Walk.{Known}
 
+-- a sequence or a property has a first operand: antt computes it of every row
+led : Row → Bool
+led r = leb (r .own) 1 || leb 1 (r .x)
+
 module _ (s xs sets : List ℕ) (known : Known s xs sets) (k : ℕ) (inside : k < count s) where
+  fit : WellFormed s k
+  fit = known .shaped .fit k inside
+
   -- the bytes of a sequence or a property name nodes below it
   record Low (v : Raw) : Type 0 where
     x : v .x < k
     y : v .y < k
 
-  low-sequence : (op : SequenceOp) → Formed (Suits s k) (Sequence op) → Low (bytesOf (Sequence op))
-  unfolding bytesOf sequenceBytes
-  low-sequence (Letter x) f = let l = f .0 in record { x = l; y = omega arith }
-  low-sequence (Then x y) f = record { x = f .0 .0; y = f .1 .0 }
-  low-sequence (Fused x y) f = record { x = f .0 .0; y = f .1 .0 }
-  low-sequence (Either x y) f = record { x = f .0 .0; y = f .1 .0 }
-  low-sequence (Empty x) f = let l = f .0 in record { x = l; y = omega arith }
-  low-sequence (Repeat x) f = let l = f .0 in record { x = l; y = omega arith }
-  low-sequence (Clocked c x) f = record { x = f .0 .0; y = f .1 .0 }
-
-  low-property : (op : PropertyOp) → Formed (Suits s k) (Property op) → Low (bytesOf (Property op))
-  unfolding bytesOf propertyBytes
-  low-property (Strong x) f = let l = f .0 in record { x = l; y = omega arith }
-  low-property (Weak x) f = let l = f .0 in record { x = l; y = omega arith }
-  low-property (Negated x) f = let l = f .0 in record { x = l; y = omega arith }
-  low-property (AnyOf x y) f = record { x = f .0 .0; y = f .1 .0 }
-  low-property (BothOf x y) f = record { x = f .0 .0; y = f .1 .0 }
-  low-property (Implies x y) f = record { x = f .0 .0; y = f .1 .0 }
-  low-property (Next x) f = let l = f .0 in record { x = l; y = omega arith }
-  low-property (Until x y) f = record { x = f .0 .0; y = f .1 .0 }
-  low-property (Ticked c x) f = record { x = f .0 .0; y = f .1 .0 }
+  low : sequence ≤ sortAt s k → Low (rawAt s k)
+  unfolding sortAt operators led
+  low h =
+      let r = rowAt s k in
+      let first : 1 ≤ r .x = leb→le 1 (r .x) (rw (lt-leb (r .own) 1 h) at (row-passes led tt tt (rawAt s k .op))) in
+      let l = fit .x .below (λ z. omega arith) in
+      record {
+        x = l;
+        y = ⊎-elim (λ (e : r .y ≡ none). let m = fit .y .number e in omega arith) (λ (g : 0 < r .y). fit .y .below (λ z. omega arith)) (eq-zero-or-pos (r .y));
+      }
 
   pub node-bytes : 4 * k + 10 ≤ length s
   node-bytes = let l = known .shaped .long in omega arith
 
   module _ (v : Raw) (ev : v ≡ rawAt s k) (node : Node) (dec : Decodes v node) where
     pub bytes-of : {kind : Node} → node ≡ kind → v ≡ bytesOf kind
-    bytes-of e = ev ∙ coded-as s k (known .shaped .fit k inside) (read-as s k v node ev dec e)
+    bytes-of e = ev ∙ coded-as s k fit (read-as s k v node ev dec e)
 
-    pub formed-as : {kind : Node} → node ≡ kind → Formed (Suits s k) kind
-    formed-as e = down s k (known .shaped .fit k inside) (read-as s k v node ev dec e)
-
-    low-of : {kind : Node} → node ≡ kind → Low (bytesOf kind) → Low v
-    low-of e h = subst Low (sym (bytes-of e)) h
+    low-of : {kind : Node} → node ≡ kind → sequence ≤ sortOf kind → Low v
+    low-of {kind} e h =
+        let o : sortAt s k ≡ sortOf kind = sort-is s k fit ∙ ap sortOf (read-as s k v node ev dec e) in
+        subst Low (sym ev) (low (omega arith))
 
     -- a is the number that the first byte has, b the second
     pub sequence-x : (op : SequenceOp) → node ≡ Sequence op → (a : ℕ) → a ≡ v .x → a < k
-    sequence-x op e a ea = let l = low-of e (low-sequence op (formed-as e)) .x in omega arith
+    sequence-x op e a ea = let l = low-of e (omega arith) .x in omega arith
 
     pub sequence-y : (op : SequenceOp) → node ≡ Sequence op → (b : ℕ) → b ≡ v .y → b < k
-    sequence-y op e b eb = let l = low-of e (low-sequence op (formed-as e)) .y in omega arith
+    sequence-y op e b eb = let l = low-of e (omega arith) .y in omega arith
 
     pub property-x : (op : PropertyOp) → node ≡ Property op → (a : ℕ) → a ≡ v .x → a < k
-    property-x op e a ea = let l = low-of e (low-property op (formed-as e)) .x in omega arith
+    property-x op e a ea = let l = low-of e (omega arith) .x in omega arith
 
     pub property-y : (op : PropertyOp) → node ≡ Property op → (b : ℕ) → b ≡ v .y → b < k
-    property-y op e b eb = let l = low-of e (low-property op (formed-as e)) .y in omega arith
+    property-y op e b eb = let l = low-of e (omega arith) .y in omega arith
 
 -- a node below k has a set
 pub set-there : (s xs sets : List ℕ) → Known s xs sets → (k : ℕ) → k < count s → (a : ℕ) → a < k → a < length sets

@@ -17,11 +17,12 @@ use Rattle.nodes.specs.declared.Node.the-variants.{Boolean, Sequence, Property}
 use Rattle.nodes.specs.declared.BooleanOp.{BooleanOp}
 use Rattle.nodes.specs.declared.SequenceOp.{SequenceOp}
 use Rattle.nodes.specs.declared.PropertyOp.{PropertyOp}
-use Rattle.nodes.specs.declared.PropertyOp.the-variants.{Strong, Weak, Negated, AnyOf, BothOf, Implies, Next, Until, Ticked}
+use Rattle.nodes.specs.declared.PropertyOp.the-variants.{Strong, Weak, Negated, AnyOf, BothOf, Implies, Next, Until, Ticked, Defined}
 use Rattle.nodes.specs.Operators.{Decodes, bytesOf, propertyBytes}
-use Rattle.nodes.specs.Nodes.{rawAt, nodeAt}
+use Rattle.nodes.specs.Nodes.{rawAt, nodeAt, WellFormed}
 use Rattle.nodes.proofs.Coded.{read-as}
-use Rattle.nodes.proofs.Shapes.{Formed, Suits}
+use Rattle.nodes.proofs.Based.{not-defined}
+use Rattle.nodes.proofs.Shapes.{down}
 use Rattle.table.specs.Trees.{PropertyAt}
 use Rattle.table.proofs.Reading.{ReadP, readP}
 use Rattle.cells.specs.Shares.{longest}
@@ -34,7 +35,7 @@ use Rattle.rowmeaning.proofs.PropertyRules.{says-as, strong-says, weak-says, im
 use Rattle.rowmeaning.proofs.TickRules.{until-says, second-says}
 use Rattle.rowmeaning.proofs.TestedRules.{tested-as, strong-tested, weak-tested, not-tested, or-tested, and-tested, next-tested, under-tested, until-tested-by, second-tested-by, implies-tested-by}
 use Rattle.walk.specs.Walk.{Known, Ticking, SequenceMeans, PropertyMeans}
-use Rattle.walk.proofs.Operands.{bytes-of, formed-as}
+use Rattle.walk.proofs.Operands.{bytes-of}
 use Rattle.walk.proofs.SequenceRows.{own-ticks, condition, brief, own-row}
 
 module _ (s xs sets : List ℕ) (known : Known s xs sets) (k : ℕ) (inside : k < count s) where
@@ -43,6 +44,9 @@ module _ (s xs sets : List ℕ) (known : Known s xs sets) (k : ℕ) (inside : k 
 
   short : n ≤ longest
   short = brief s xs sets known
+
+  fit : WellFormed s k
+  fit = known .shaped .fit k inside
 
   -- both that are asked of an answer
   record Right (κ : Clock Atom) (P : Prop Atom) (r : Told) : Type 0 where
@@ -71,7 +75,7 @@ module _ (s xs sets : List ℕ) (known : Known s xs sets) (k : ℕ) (inside : k 
     as-tree : {κ : Clock Atom} {P Q : Prop Atom} → P ≡ Q → Right κ Q r → Right κ P r
     as-tree {κ} e h = subst (λ P. Right κ P r) (sym e) h
 
-    by-kind : (op : PropertyOp) → Formed (Suits s k) (Property op) → c .bits ≡ getD sets (bytesOf (Property op) .x) 0
+    by-kind : (op : PropertyOp) → nodeAt s k ≡ Property op → c .bits ≡ getD sets (bytesOf (Property op) .x) 0
         → SequenceMeans s xs (propertyClock op c clock) (bytesOf (Property op) .x) x
         → PropertyMeans s xs (propertyClock op c clock) (bytesOf (Property op) .x) p → PropertyMeans s xs (propertyClock op c clock) (bytesOf (Property op) .y) q
         → PropertyStep x p q clock n op r → (P : Prop Atom) → ReadP (nodeAt s) (Property op) P → (κ : Clock Atom) → Ticking xs κ clock → Right κ P r
@@ -111,8 +115,9 @@ module _ (s xs sets : List ℕ) (known : Known s xs sets) (k : ℕ) (inside : k 
         (until-tested-by reading (pairs xs) κ (ht .ticks) (h .says) (h2 .says) (h .tested) (h2 .tested)))
     by-kind (Ticked a b) f ec hx hp hq st P z κ ht =
         let (t, B, e, d, d2) = z in
-        let h2 = right hq B d2 (on t) (own-ticks xs t c (condition s xs sets known k inside c (f .0) ec t d)) in
+        let h2 = right hq B d2 (on t) (own-ticks xs t c (condition s xs sets known k inside c (down s k fit f .0) ec t d)) in
         as-tree e (subst (λ r. Right κ (under t B) r) (sym st) (record { says = under-says reading (pairs xs) κ (h2 .says); tested = under-tested reading (pairs xs) (h2 .tested) }))
+    by-kind (Defined o) f ec hx hp hq st P z κ ht = absurd (not-defined s k fit (known .shaped .old) f)
 
   module _ (v : Raw) (ev : v ≡ rawAt s k) (node : Node) (dec : Decodes v node) (clock : Ticks) where
     means-by : {kind : Node} → node ≡ kind → (r : Told) → ((P : Prop Atom) → ReadP (nodeAt s) kind P → (κ : Clock Atom) → Ticking xs κ clock → Right κ P r) → PropertyMeans s xs clock k r
@@ -135,7 +140,7 @@ module _ (s xs sets : List ℕ) (known : Known s xs sets) (k : ℕ) (inside : k 
         let by : b ≡ bytesOf (Property op) .y = eb ∙ ap (λ (v : Raw). v .y) bytes in
         means-by e r
         (λ P z κ ht.
-        by-kind c clock x p q r op (formed-as s xs sets known k inside v ev node dec e) (ec ∙ ap (λ a. getD sets a 0) ax)
+        by-kind c clock x p q r op (read-as s k v node ev dec e) (ec ∙ ap (λ a. getD sets a 0) ax)
         (subst (λ t. SequenceMeans s xs t (bytesOf (Property op) .x) x) ew (subst (λ a. SequenceMeans s xs below a x) ax hx))
         (subst (λ t. PropertyMeans s xs t (bytesOf (Property op) .x) p) ew (subst (λ a. PropertyMeans s xs below a p) ax hp))
         (subst (λ t. PropertyMeans s xs t (bytesOf (Property op) .y) q) ew (subst (λ b. PropertyMeans s xs below b q) by hq))

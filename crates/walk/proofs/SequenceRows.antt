@@ -15,12 +15,13 @@ use Rattle.nodes.specs.declared.Node.{Node}
 use Rattle.nodes.specs.declared.Node.the-variants.{Boolean, Sequence, Property}
 use Rattle.nodes.specs.declared.BooleanOp.{BooleanOp}
 use Rattle.nodes.specs.declared.SequenceOp.{SequenceOp}
-use Rattle.nodes.specs.declared.SequenceOp.the-variants.{Letter, Then, Fused, Either, Empty, Repeat, Clocked}
+use Rattle.nodes.specs.declared.SequenceOp.the-variants.{Letter, Then, Fused, Either, Empty, Repeat, Clocked, Derived}
 use Rattle.nodes.specs.declared.PropertyOp.{PropertyOp}
 use Rattle.nodes.specs.Operators.{Decodes, bytesOf, sequenceBytes}
-use Rattle.nodes.specs.Nodes.{rawAt, nodeAt}
+use Rattle.nodes.specs.Nodes.{rawAt, nodeAt, WellFormed}
 use Rattle.nodes.proofs.Coded.{read-as}
-use Rattle.nodes.proofs.Shapes.{Formed, Suits}
+use Rattle.nodes.proofs.Based.{not-derived}
+use Rattle.nodes.proofs.Shapes.{Suits, down}
 use Rattle.table.specs.Trees.{BooleanAt}
 use Rattle.table.proofs.Reading.{ReadS, readS}
 use Rattle.cells.specs.Shares.{share, longest, wordIn}
@@ -32,7 +33,7 @@ use Rattle.rowmeaning.proofs.WordBits.{SequenceLaid}
 use Rattle.rowmeaning.proofs.SequenceRules.{row-as, clocked-row, then-row, fused-row, either-row, empty-row, repeat-row}
 use Rattle.rowmeaning.proofs.LetterRules.{ticks-valued, letter-under}
 use Rattle.walk.specs.Walk.{Known, Ticking, SequenceMeans}
-use Rattle.walk.proofs.Operands.{bytes-of, formed-as}
+use Rattle.walk.proofs.Operands.{bytes-of}
 
 -- a clock node's condition, where c has the samples that satisfy it
 pub own-ticks : (xs : List ℕ) (b : Bexp Atom) (c : PositionSet) → Valued reading (pairs xs) b (has (c .bits)) → Ticking xs (on b) (ownClock c)
@@ -70,6 +71,9 @@ module _ (s xs sets : List ℕ) (known : Known s xs sets) (k : ℕ) (inside : k 
   short : n ≤ longest
   short = brief s xs sets known
 
+  fit : WellFormed s k
+  fit = known .shaped .fit k inside
+
   module _ (c : PositionSet) (clock : Ticks) (x y out : List ℕ) where
     abbrev Row : Clock Atom → Seq Atom → Type 0
     Row κ r = SequenceRow reading (pairs xs) κ (λ i. getD out i 0) r
@@ -80,13 +84,13 @@ module _ (s xs sets : List ℕ) (known : Known s xs sets) (k : ℕ) (inside : k 
     laid : {op : SequenceOp} (p : PairRow x y op n out) → SequenceLaid n (p .rows) op (λ i. getD out i 0)
     laid p = record { word = p .word }
 
-    by-kind : (op : SequenceOp) → Formed (Suits s k) (Sequence op) → c .bits ≡ getD sets (bytesOf (Sequence op) .x) 0
+    by-kind : (op : SequenceOp) → nodeAt s k ≡ Sequence op → c .bits ≡ getD sets (bytesOf (Sequence op) .x) 0
         → SequenceMeans s xs (sequenceClock op c clock) (bytesOf (Sequence op) .x) x → SequenceMeans s xs (sequenceClock op c clock) (bytesOf (Sequence op) .y) y
         → SequenceStep x y (c .bits) (clock .at .bits) n op out → (r : Seq Atom) → ReadS (nodeAt s) (Sequence op) r → (κ : Clock Atom) → Ticking xs κ clock → Row κ r
     unfolding bytesOf sequenceBytes
     by-kind (Letter a) f ec hx hy st r z κ ht =
         let (b, e, d) = z in
-        as-tree e (letter-under reading (pairs xs) κ short (ht .ticks) (condition s xs sets known k inside c f ec b d) st)
+        as-tree e (letter-under reading (pairs xs) κ short (ht .ticks) (condition s xs sets known k inside c (down s k fit f) ec b d) st)
     by-kind (Then a b) f ec hx hy st r z κ ht =
         let (q, q2, e, d, d2) = z in
         as-tree e
@@ -109,7 +113,8 @@ module _ (s xs sets : List ℕ) (known : Known s xs sets) (k : ℕ) (inside : k 
         let (t, q, e, d, d2) = z in
         as-tree e
         (clocked-row reading (pairs xs) κ
-        (row-as reading (pairs xs) (on t) short (λ i l. st .word i l ∙ at-first y i) (hy .means q d2 (on t) (own-ticks xs t c (condition s xs sets known k inside c (f .0) ec t d)))))
+        (row-as reading (pairs xs) (on t) short (λ i l. st .word i l ∙ at-first y i) (hy .means q d2 (on t) (own-ticks xs t c (condition s xs sets known k inside c (down s k fit f .0) ec t d)))))
+    by-kind (Derived o) f ec hx hy st r z κ ht = absurd (not-derived s k fit (known .shaped .old) f)
 
   module _ (v : Raw) (ev : v ≡ rawAt s k) (node : Node) (dec : Decodes v node) (clock : Ticks) where
     means-by : {kind : Node} → node ≡ kind → (out : List ℕ)
@@ -131,7 +136,7 @@ module _ (s xs sets : List ℕ) (known : Known s xs sets) (k : ℕ) (inside : k 
         let by : b ≡ bytesOf (Sequence op) .y = eb ∙ ap (λ (v : Raw). v .y) bytes in
         means-by e out
         (λ r z κ ht.
-        by-kind c clock x y out op (formed-as s xs sets known k inside v ev node dec e) (ec ∙ ap (λ a. getD sets a 0) ax)
+        by-kind c clock x y out op (read-as s k v node ev dec e) (ec ∙ ap (λ a. getD sets a 0) ax)
         (subst (λ t. SequenceMeans s xs t (bytesOf (Sequence op) .x) x) ew (subst (λ a. SequenceMeans s xs below a x) ax hx))
         (subst (λ t. SequenceMeans s xs t (bytesOf (Sequence op) .y) y) ew (subst (λ b. SequenceMeans s xs below b y) by hy))
         (subst (λ m. SequenceStep x y (c .bits) (clock .at .bits) m op out) (sym (length-pairs xs)) st) r z κ ht)

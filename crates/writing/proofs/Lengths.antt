@@ -21,7 +21,9 @@ use Rattle.numbers.specs.Numbers.{sum, isBoolean, isOther, lengthUnder, lengthO
 use Rattle.numbers.proofs.Numbering.{none-under, count-split}
 use Rattle.blocks.specs.Blocks.{blockUnder}
 use Rattle.blocks.proofs.Viewing.{listed, Single, not-free, none-is, single-is, letter-is, next-is, until-is, View, of-none, of-single, of-letter, of-next, of-until, view}
-use Rattle.writing.specs.Tables.{heading, encoded, blockOf, laid, newNodes, newTable}
+use Rattle.encoding.specs.Encoding.{encoded}
+use Rattle.encoding.proofs.Putting.{length-encoded}
+use Rattle.writing.specs.Tables.{headed, blockOf, laid, newNodes, newTable}
 
 -- ---- a block
 
@@ -59,13 +61,6 @@ under-long ν ρ at r k = go (view ρ (r .op))
     go (of-next c e o) = ap length (next-is ν ρ at r c e o) ∙ sym (of-listed ρ c (r .op) 38 14 e o refl)
     go (of-until c e o) = ap length (until-is ν ρ at r c e o) ∙ sym (of-listed ρ c (r .op) 39 9 e o refl)
 
--- ---- bytes
-
-pub length-encoded : (rs : List Raw) → length (encoded rs) ≡ 4 * length rs
-unfolding encoded
-length-encoded [] = refl
-length-encoded (r ∷ rs) = let h = length-encoded rs in omega arith
-
 -- ---- the blocks of a table
 
 module _ (s : List ℕ) (clock : ℕ → Ref) (fit : (k : ℕ) → k < count s → WellFormed s k) where
@@ -95,5 +90,5 @@ module _ (s : List ℕ) (clock : ℕ → Ref) (fit : (k : ℕ) → k < count s �
   pub length-table : length (newTable s clock) ≡ 4 * newCount s clock + 6
   unfolding newTable
   length-table =
-      length-append (heading s (newCount s clock)) (encoded (newNodes s clock))
+      length-append (headed s (newCount s clock)) (encoded (newNodes s clock))
       ∙ (let a = length-encoded (newNodes s clock) in let b = length-new in omega arith)

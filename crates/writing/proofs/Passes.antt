@@ -1,6 +1,6 @@
 -- The block of node k is what the code makes of the node's bytes, the arrays of clocks and of new numbers; and where the two passes stand. Assumes nothing.
 use native.Mathlib.Omega.{arith}
-use borrow.Author.Tests.{lt-ltb, ne-eqb, eqb-false, not-true}
+use borrow.Author.Tests.{ne-eqb, not-true}
 use mathlib.Core.Path.{_≡_, refl, _∙_, sym, ap}
 use mathlib.Core.Bool.{Bool, true, false, cond, Bool·beq}
 use mathlib.Core.List.{List}
@@ -22,7 +22,9 @@ use Rattle.numbers.specs.Computed.{Numbered}
 use Rattle.numbers.proofs.Sums.{sum-le}
 use Rattle.numbers.proofs.Numbering.{none-under, count-split}
 use Rattle.numbers.proofs.Counting.{looked}
-use Rattle.blocks.specs.Blocks.{moved, movedNode, movedBlock, blockUnder}
+use Rattle.encoding.specs.Moved.{moved, movedNode}
+use Rattle.encoding.proofs.Renumbering.{looked-up, looked-moved}
+use Rattle.blocks.specs.Blocks.{movedBlock, blockUnder}
 use Rattle.blocks.specs.Computed.{kindBlock}
 use Rattle.writing.specs.Tables.{blockOf}
 use Rattle.writing.specs.Computed.{ofPass, passStart}
@@ -63,18 +65,13 @@ byte-on c d e = go (eqb c 255) e
 module _ (s clocks numbers : List ℕ) (h : Numbered s clocks numbers) where
   -- the new number of a node
   pub number-of : (v : ℕ) → v < count s → getD numbers (namedBy v) 0 ≡ numberOf s (clockBy clocks) v
-  unfolding namedBy
-  number-of v l = let f = h .timed .table .few in rw (lt-ltb v 120 (omega arith)) (h .right v l)
+  number-of v l = looked-up (numberOf s (clockBy clocks)) numbers (count s) (h .timed .table .few) (h .right) v l
 
   module _ (k : ℕ) (l : k < count s) where
     -- an operand by its new number, and any other byte as it is
     moved-is : (sort limit v : ℕ) → Operand s k sort limit v → cond (eqb sort none) v (getD numbers (namedBy v) 0) ≡ moved (numberOf s (clockBy clocks)) sort v
-    unfolding moved
-    moved-is sort limit v o = go (eqb sort none) refl
-      where
-        go : (t : Bool) → eqb sort none ≡ t → cond t v (getD numbers (namedBy v) 0) ≡ cond t v (numberOf s (clockBy clocks) v)
-        go true e = refl
-        go false e = let b = o .below (eqb-false sort none e) in number-of v (omega arith)
+    moved-is sort limit v o =
+        looked-moved (numberOf s (clockBy clocks)) numbers (count s) (h .timed .table .few) (h .right) sort v (λ z. let b = o .below z in omega arith)
 
     pub clock-is : refOf (getD clocks k 0) ≡ clockBy clocks k
     clock-is = let f = h .timed .table .few in sym (clock-read clocks k (omega arith))

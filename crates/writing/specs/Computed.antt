@@ -1,25 +1,15 @@
--- What the parts of the code ask of each other, and what each puts into the bytes lent. Assumes nothing.
+-- What the parts of the code ask of each other, and what each gives to a pass. Assumes nothing.
 use mathlib.Core.Path.{_≡_}
 use mathlib.Core.Bool.{Bool, true, false, cond}
-use mathlib.Core.List.{List, [], _++_}
+use mathlib.Core.List.{List, []}
 use Prim.Native.Nat.{ℕ, _+_, _*_, _≤_}
-use lib.ListN.{length, take, drop}
+use lib.ListN.{length}
 use Rattle.refusal.specs.Heading.{count}
 use Rattle.nodes.specs.declared.Raw.{Raw}
 use Rattle.nodes.specs.NodeClock.{Ref}
 use Rattle.clocks.specs.Computed.{clockBy}
 use Rattle.numbers.specs.Numbers.{isBoolean, isOther, lengthOf, taken, startOf}
-use Rattle.writing.specs.Tables.{encoded, blockOf, laid}
-
--- ---- bytes put into what is lent
-
--- d with xs put in from byte `at` on
-unfoldable pub put : List ℕ → ℕ → List ℕ → List ℕ
-put d at xs = take at d ++ xs ++ drop (at + length xs) d
-
--- d with the nodes rs put in from node `at` on
-abbrev pub putNodes : List ℕ → ℕ → List Raw → List ℕ
-putNodes d at rs = put d (4 * at + 6) (encoded rs)
+use Rattle.writing.specs.Tables.{blockOf, laid}
 
 -- ---- the two passes: of the booleans and of the others
 

@@ -1,26 +1,19 @@
 -- Document 01, "Rewriting, node by node": rewriting writes a whole table, 6 + 4m bytes for m nodes; document 02: it copies the version. Assumes nothing.
 use mathlib.Core.Bool.{Bool, cond}
-use mathlib.Core.List.{List, [], _∷_, _++_}
+use mathlib.Core.List.{List, [], _++_}
 use Prim.Native.Nat.{ℕ, zero, suc}
 use lib.ListN.{getD}
-use Rattle.refusal.specs.Heading.{count, mark}
+use Rattle.refusal.specs.Heading.{count}
 use Rattle.nodes.specs.declared.Raw.{Raw}
 use Rattle.nodes.specs.Nodes.{rawAt}
+use Rattle.encoding.specs.Encoding.{heading, encoded}
 use Rattle.nodes.specs.NodeClock.{Ref}
 use Rattle.numbers.specs.Numbers.{isBoolean, isOther, newCount, startOf, numberOf}
 use Rattle.blocks.specs.Blocks.{blockUnder}
 
 -- the mark, the two bytes of the version of s, and the count
-abbrev pub heading : List ℕ → ℕ → List ℕ
-heading s m = mark 0x54 ++ (getD s 3 0 ∷ getD s 4 0 ∷ m ∷ [])
-
--- 4 bytes a node
-abbrev pub fourBytes : Raw → List ℕ
-fourBytes r = r .op ∷ r .x ∷ r .y ∷ r .fourth ∷ []
-
-unfoldable pub encoded : List Raw → List ℕ
-encoded [] = []
-encoded (r ∷ rs) = fourBytes r ++ encoded rs
+abbrev pub headed : List ℕ → ℕ → List ℕ
+headed s m = heading (getD s 3 0) (getD s 4 0) m
 
 module _ (s : List ℕ) (clock : ℕ → Ref) where
   abbrev pub blockOf : ℕ → List Raw
@@ -36,4 +29,4 @@ module _ (s : List ℕ) (clock : ℕ → Ref) where
   newNodes = laid (isBoolean s) (count s) ++ laid (isOther s) (count s)
 
   unfoldable pub newTable : List ℕ
-  newTable = heading s (newCount s clock) ++ encoded newNodes
+  newTable = headed s (newCount s clock) ++ encoded newNodes

@@ -1,48 +1,26 @@
 // Writes the new table into the bytes lent: its heading, the blocks of the booleans and then those of the other nodes, each pass in order.
 use blocks::block_node;
-use nodes::Raw;
+use encoding::low;
+use encoding::moved_byte;
+use encoding::put_heading;
+use encoding::put_node;
 use nodes::named;
 use nodes::node_at;
 use nodes::operators::BOOLEAN;
-use nodes::operators::NONE;
 use nodes::operators::row_of;
 use nodes::sort_at;
 use numbers::Counts;
 use numbers::length_under;
-use numbers::low;
 ghost use mathlib.Core.Path.{_≡_};
-ghost use mathlib.Core.Bool.{cond};
 ghost use Prim.Native.Nat.{_+_, _*_, _<_, _≤_};
-ghost use lib.Dec.{eqb};
-ghost use lib.ListN.{length, getD};
+ghost use lib.ListN.{length};
 ghost use Rattle.refusal.specs.Heading.{count};
-ghost use Rattle.nodes.specs.Operators.{none};
-ghost use Rattle.nodes.specs.Computed.{namedBy};
 ghost use Rattle.clocks.specs.Computed.{clockBy};
 ghost use Rattle.numbers.specs.Numbers.{newCount, lengthOf};
 ghost use Rattle.numbers.specs.Computed.{CountsOf, Numbered};
-ghost use Rattle.writing.specs.Tables.{heading, fourBytes, blockOf, newTable};
-ghost use Rattle.writing.specs.Computed.{put, putNodes, passStart, givenBy, countBy, givenBelow, TableFits, PassAt, BlockFits};
-
-// An operand byte of the sort, by its new number; any other byte as it is.
-fn moved_byte(numbers: &[u8], sort: u8, v: u8) -> u8
-    requires { ⌜ length (now numbers) ≡ 121 ⌝ }
-    ensures { λ r. ⌜ r ≡ cond (eqb sort none) v (getD (now (numbers .entry)) (namedBy v) 0) ⌝ }
-{
-    if sort == NONE { v } else { numbers[named(v)] }
-}
-
-// Writes the four bytes of node `at`.
-fn put_node(out: &mut [u8], at: usize, v: Raw)
-    requires { ⌜ 4 * at + 10 ≤ length (now out) ⌝ }
-    ensures { λ _. ⌜ now (out .exit) ≡ put (now (out .entry)) (4 * at + 6) (fourBytes v) ⌝ }
-{
-    let i = 4 * at + 6;
-    out[i] = v.op;
-    out[i + 1] = v.x;
-    out[i + 2] = v.y;
-    out[i + 3] = v.fourth;
-}
+ghost use Rattle.encoding.specs.Encoding.{put, putNodes};
+ghost use Rattle.writing.specs.Tables.{headed, blockOf, newTable};
+ghost use Rattle.writing.specs.Computed.{passStart, givenBy, countBy, givenBelow, TableFits, PassAt, BlockFits};
 
 // Writes the block of node k, from node `at` on, and answers the number after it.
 fn put_block(b: &[u8], clocks: &[u8], numbers: &[u8], out: &mut [u8], k: usize, at: usize) -> usize
@@ -111,17 +89,12 @@ fn put_pass(
     }
 }
 
-// The mark, the version of the table b, and the count.
-fn put_heading(b: &[u8], out: &mut [u8], m: usize)
+// The heading, with the version of the table b.
+fn put_headed(b: &[u8], out: &mut [u8], m: usize)
     requires { ⌜ (m ≤ 120) × (6 ≤ length (now b)) × (6 ≤ length (now out)) ⌝ }
-    ensures { λ _. ⌜ now (out .exit) ≡ put (now (out .entry)) 0 (heading (now (b .entry)) m) ⌝ }
+    ensures { λ _. ⌜ now (out .exit) ≡ put (now (out .entry)) 0 (headed (now (b .entry)) m) ⌝ }
 {
-    out[0] = 83;
-    out[1] = 86;
-    out[2] = 84;
-    out[3] = b[3];
-    out[4] = b[4];
-    out[5] = low(m);
+    put_heading(out, b[3], b[4], m);
 }
 
 // Writes the whole new table.
@@ -130,7 +103,7 @@ pub fn put_table(b: &[u8], n: usize, clocks: &[u8], numbers: &[u8], counts: Coun
     requires { ⌜ CountsOf (now b) (now clocks) counts × TableFits (counts .all) (now out) ⌝ }
     ensures { λ _. ⌜ now (out .exit) ≡ put (now (out .entry)) 0 (newTable (now (b .entry)) (clockBy (now (clocks .entry)))) ⌝ }
 {
-    put_heading(b, out, counts.all);
+    put_headed(b, out, counts.all);
     put_pass(b, n, clocks, numbers, true, out, 0);
     put_pass(b, n, clocks, numbers, false, out, counts.booleans);
 }

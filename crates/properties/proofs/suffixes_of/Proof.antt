@@ -1,4 +1,4 @@
--- `properties::suffixes_of` meets its contract: each arm is its operator's words, and a clocked property has none. Assumes nothing.
+-- `properties::suffixes_of` meets its contract: each arm is its operator's words, and a clocked or a derived property has none. Assumes nothing.
 use mathlib.Core.Bool.{_||_, _&&_}
 use borrow.Author.Needs.{needs}
 use Rattle.cells.specs.Bits.{negatedBit, impliesBit, nextBit}
@@ -35,6 +35,8 @@ suffixes-of-spec =
     (λ c κs. let p = rw (c .before .op8 .given .1) at (c .before .before .before .before .pre) in search needs)
     (λ c. search needs)
     (λ c κs. search needs)
+    (λ c. search needs)
+    (λ c κs. search needs)
     (λ c. rw (c .before .before .op .given .1) (c .strong-of .ensures))
     (λ c. rw (c .before .before .op2 .given .1) (c .weak-of .ensures))
     (λ c. let n = c .before .before .before .before .before .before .args .n in rw (c .before .before .before .op3 .given .1) (by-row (negatedBit n) _ _ _ _ (c .before .three-at .ensures) (c .not-of .ensures)))
@@ -43,4 +45,5 @@ suffixes-of-spec =
     (λ c. let a = c .before .before .before .before .before .before .args in rw (c .before .before .before .op6 .given .1) (by-row (impliesBit (a .rows .now) (a .n) _) _ _ _ _ (c .before .three-at6 .ensures) (c .implies-of .ensures)))
     (λ c. let n = c .before .before .before .before .before .before .args .n in rw (c .before .before .before .op7 .given .1) (by-row (nextBit n) _ _ _ _ (c .before .three-at7 .ensures) (c .next-of .ensures)))
     (λ c. rw (c .before .before .op8 .given .1) (c .until-of .ensures))
-    (λ c. rw (c .before .enum-told .given .1) (record { neutral = c .empty .ensures; weak = c .empty .ensures; strong = c .empty .ensures })))
+    (λ c. rw (c .before .enum-told .given .1) (c .none-of .ensures))
+    (λ c. rw (c .before .enum-told2 .given .1) (c .none-of2 .ensures)))

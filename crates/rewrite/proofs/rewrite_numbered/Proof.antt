@@ -19,7 +19,7 @@ use Rattle.numbers.specs.declared.Counts.{Counts}
 use Rattle.numbers.specs.Numbers.{newCount}
 use Rattle.numbers.specs.Computed.{CountsOf, Numbered}
 use Rattle.writing.specs.Tables.{newTable}
-use Rattle.writing.specs.Computed.{put}
+use Rattle.encoding.specs.Encoding.{put}
 use Rattle.writing.proofs.Lengths.{length-table}
 use Rattle.rewrite.specs.declared.Rewriting.{Rewriting}
 use Rattle.rewrite.specs.Rewrites.{Rewrites}

@@ -1,6 +1,5 @@
 -- `sequences::put_none` meets its contract: the words up to n have no place. Assumes nothing.
 use borrow.Author.Needs.{needs}
-use Rattle.sequences.proofs.Making.{clocked-made}
 use Rattle.sequences.proofs.put_none.Statement.{statement}
 use Rattle.sequences.proofs.put_none.Tie as tie
 
@@ -20,9 +19,7 @@ same-length : tie.Need-same-length
 same-length c = search needs
 
 returns : tie.Need-returns
-returns c =
-    let s = c .before .before .before .before .before .before in
-    clocked-made _ _ _ _ _ _ _ (s .pre .0) (s .pre .1) (c .before .before .before .clear .ensures) (c .empty .ensures)
+returns c = record { words = c .before .before .before .clear .ensures; decided = c .empty .ensures }
 
 pub put-none-spec : {M : Type 1} → statement M
 put-none-spec = tie.close (tie.spec mul-clear add-clear clear-requires empty-requires same-length returns)

@@ -70,6 +70,8 @@ property-set-spec =
     until-set-requires
     (λ c. search needs)
     (λ c κs. search needs)
+    (λ c. search needs)
+    (λ c κs. search needs)
     (λ c. rw (c .before .enum-told .given .1) (c .full .ensures))
     (λ c. rw (c .before .enum-told2 .given .1) (c .full2 .ensures))
     (λ c. rw (c .before .enum-told3 .given .1) (set-is _ _ (c .set-for .ensures)))
@@ -91,4 +93,5 @@ property-set-spec =
     rw (told .enum-told8 .given .1)
     (until-as (a .rows .now) (a .n) _ _ _ _ _ _ _ _ _ (tick-as (a .rows .now) (a .n) (a .clock) _ _ _ (ticks .before .row-for3 .ensures) (ticks .ticks-of .ensures))
     (sets-joined _ _ _ _ _ (joined .before .before .set-for9 .ensures) (joined .before .set-for10 .ensures) (joined .joined3 .ensures)) (c .before .before .row-for4 .ensures) (c .before .row-for5 .ensures) (c .until-set .ensures)))
-    (λ c. rw (c .before .enum-told9 .given .1) (set-is _ _ (c .set-for11 .ensures))))
+    (λ c. rw (c .before .enum-told9 .given .1) (set-is _ _ (c .set-for11 .ensures)))
+    (λ c. rw (c .before .enum-told10 .given .1) (c .empty .ensures)))

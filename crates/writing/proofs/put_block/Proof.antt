@@ -18,11 +18,11 @@ use Rattle.clocks.specs.Computed.{refOf, clockBy}
 use Rattle.clocks.proofs.HandingDown.{built}
 use Rattle.numbers.specs.Numbers.{lengthUnder, lengthOf, startOf}
 use Rattle.numbers.specs.Computed.{Numbered}
-use Rattle.blocks.specs.Computed.{blank, kindBlock}
-use Rattle.writing.specs.Tables.{fourBytes, encoded, blockOf}
-use Rattle.writing.specs.Computed.{put}
+use Rattle.encoding.specs.Encoding.{fourBytes, encoded, blank, put}
+use Rattle.blocks.specs.Computed.{kindBlock}
+use Rattle.writing.specs.Tables.{blockOf}
 use Rattle.writing.proofs.Lengths.{block-long}
-use Rattle.writing.proofs.Putting.{put-none, put-more, encoded-more}
+use Rattle.encoding.proofs.Putting.{put-none, put-more, encoded-more}
 use Rattle.writing.proofs.Passes.{long-is, block-is}
 use Rattle.writing.proofs.put_block.Statement.{statement}
 use Rattle.writing.proofs.put_block.Tie as tie

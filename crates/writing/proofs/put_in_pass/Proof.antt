@@ -15,9 +15,10 @@ use Rattle.nodes.specs.Nodes.{sortAt}
 use Rattle.nodes.specs.NodeClock.{Ref}
 use Rattle.numbers.specs.Numbers.{isBoolean, lengthOf, newCount, taken, startOf}
 use Rattle.numbers.proofs.Numbering.{start-fits}
-use Rattle.writing.specs.Tables.{encoded, blockOf}
-use Rattle.writing.specs.Computed.{ofPass, passStart, put}
-use Rattle.writing.proofs.Putting.{put-none}
+use Rattle.encoding.specs.Encoding.{encoded, put}
+use Rattle.writing.specs.Tables.{blockOf}
+use Rattle.writing.specs.Computed.{ofPass, passStart}
+use Rattle.encoding.proofs.Putting.{put-none}
 use Rattle.writing.proofs.Passes.{of-pass, pass-start}
 use Rattle.writing.proofs.put_in_pass.Statement.{statement}
 use Rattle.writing.proofs.put_in_pass.Tie as tie

@@ -13,10 +13,11 @@ use Rattle.clocks.specs.Computed.{clockBy}
 use Rattle.clocks.proofs.HandingDown.{built}
 use Rattle.numbers.specs.Numbers.{sum, lengthOf, newCount, taken}
 use Rattle.numbers.specs.Computed.{Numbered}
-use Rattle.writing.specs.Tables.{encoded, blockOf, laid}
-use Rattle.writing.specs.Computed.{ofPass, passStart, put}
+use Rattle.encoding.specs.Encoding.{encoded, put}
+use Rattle.writing.specs.Tables.{blockOf, laid}
+use Rattle.writing.specs.Computed.{ofPass, passStart}
 use Rattle.writing.proofs.Lengths.{laid-long}
-use Rattle.writing.proofs.Putting.{put-none, put-more, encoded-append}
+use Rattle.encoding.proofs.Putting.{put-none, put-more, encoded-append}
 use Rattle.writing.proofs.Passes.{pass-fits}
 use Rattle.writing.proofs.put_pass.Statement.{statement}
 use Rattle.writing.proofs.put_pass.Tie as tie

@@ -14,10 +14,11 @@ use Rattle.numbers.specs.declared.Counts.{Counts}
 use Rattle.numbers.specs.Numbers.{isBoolean, isOther, newCount}
 use Rattle.numbers.specs.Computed.{CountsOf}
 use Rattle.numbers.proofs.Numbering.{count-split}
-use Rattle.writing.specs.Tables.{heading, encoded, laid, newNodes, newTable}
-use Rattle.writing.specs.Computed.{put, putNodes, ofPass, passStart, givenBelow, TableFits}
-use Rattle.writing.proofs.Lengths.{laid-long, length-encoded}
-use Rattle.writing.proofs.Putting.{put-put, encoded-append}
+use Rattle.encoding.specs.Encoding.{encoded, put, putNodes}
+use Rattle.writing.specs.Tables.{headed, laid, newNodes, newTable}
+use Rattle.writing.specs.Computed.{ofPass, passStart, givenBelow, TableFits}
+use Rattle.writing.proofs.Lengths.{laid-long}
+use Rattle.encoding.proofs.Putting.{put-put, length-encoded, encoded-append}
 use Rattle.writing.proofs.put_table.Statement.{statement}
 use Rattle.writing.proofs.put_table.Tie as tie
 
@@ -44,7 +45,7 @@ module _ (s clocks : List ℕ) (counts : Counts) (counted : CountsOf s clocks co
     unfolding ofPass
     both = rw en (sym (encoded-append (laid s (clockBy clocks) (isBoolean s) (count s)) (laid s (clockBy clocks) (isOther s) (count s))))
 
-    written : (d₁ : List ℕ) → d₁ ≡ put d 0 (heading s (counts .all)) → (d₂ : List ℕ) → d₂ ≡ putNodes d₁ 0 (givenBelow s clocks true n)
+    written : (d₁ : List ℕ) → d₁ ≡ put d 0 (headed s (counts .all)) → (d₂ : List ℕ) → d₂ ≡ putNodes d₁ 0 (givenBelow s clocks true n)
         → (d₃ : List ℕ) → d₃ ≡ putNodes d₂ (counts .booleans) (givenBelow s clocks false n) → d₃ ≡ put d 0 (newTable s (clockBy clocks))
     unfolding ofPass newTable
     written d₁ e₁ d₂ e₂ d₃ e₃ =
@@ -58,12 +59,12 @@ module _ (s clocks : List ℕ) (counts : Counts) (counted : CountsOf s clocks co
         let p : length us ≡ b = laid-long s (clockBy clocks) (built (h .table) .fit) (isBoolean s) n (omega arith) ∙ rw en (sym eb) in
         let c = count-split s (clockBy clocks) (count s) in
         let l = length-encoded us in
-        let q : length (heading s m ++ x) ≡ 4 * b + 6 = length-append (heading s m) x ∙ omega arith in
-        let f₂ : d₂ ≡ put d 0 (heading s m ++ x) = e₂ ∙ ap (λ (u : List ℕ). put u 6 x) e₁ ∙ put-put d 0 (heading s m) x (omega arith) in
-        let f₃ : put (put d 0 (heading s m ++ x)) (4 * b + 6) y ≡ put d 0 ((heading s m ++ x) ++ y) =
-        rw (← zero-add (4 * b + 6)) (rw q at (put-put d 0 (heading s m ++ x) y (rw q (omega arith)))) in
+        let q : length (headed s m ++ x) ≡ 4 * b + 6 = length-append (headed s m) x ∙ omega arith in
+        let f₂ : d₂ ≡ put d 0 (headed s m ++ x) = e₂ ∙ ap (λ (u : List ℕ). put u 6 x) e₁ ∙ put-put d 0 (headed s m) x (omega arith) in
+        let f₃ : put (put d 0 (headed s m ++ x)) (4 * b + 6) y ≡ put d 0 ((headed s m ++ x) ++ y) =
+        rw (← zero-add (4 * b + 6)) (rw q at (put-put d 0 (headed s m ++ x) y (rw q (omega arith)))) in
         e₃ ∙ ap (λ (u : List ℕ). put u (4 * b + 6) y) f₂ ∙ f₃
-        ∙ ap (put d 0) (append-assoc (heading s m) x y ∙ ap (λ (u : List ℕ). heading s m ++ u) both ∙ ap (λ (i : ℕ). heading s i ++ encoded (newNodes s (clockBy clocks))) em)
+        ∙ ap (put d 0) (append-assoc (headed s m) x y ∙ ap (λ (u : List ℕ). headed s m ++ u) both ∙ ap (λ (i : ℕ). headed s i ++ encoded (newNodes s (clockBy clocks))) em)
 
 pub put-table-spec : {M : Type 1} → statement M
 put-table-spec =

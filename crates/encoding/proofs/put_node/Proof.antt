@@ -1,10 +1,10 @@
--- `writing::put_node` meets its contract. Assumes nothing.
+-- `encoding::put_node` meets its contract. Assumes nothing.
 use borrow.Author.Needs.{needs}
 use native.Mathlib.Omega.{arith}
 use lib.ListN.{length-set}
-use Rattle.writing.proofs.Putting.{put-four}
-use Rattle.writing.proofs.put_node.Statement.{statement}
-use Rattle.writing.proofs.put_node.Tie as tie
+use Rattle.encoding.proofs.Putting.{put-four}
+use Rattle.encoding.proofs.put_node.Statement.{statement}
+use Rattle.encoding.proofs.put_node.Tie as tie
 
 pub put-node-spec : {M : Type 1} → statement M
 put-node-spec =

@@ -1,10 +1,10 @@
--- `writing::put_heading` meets its contract. Assumes nothing.
+-- `encoding::put_heading` meets its contract. Assumes nothing.
 use borrow.Author.Needs.{needs}
 use native.Mathlib.Omega.{arith}
 use lib.ListN.{length-set}
-use Rattle.writing.proofs.Putting.{put-six}
-use Rattle.writing.proofs.put_heading.Statement.{statement}
-use Rattle.writing.proofs.put_heading.Tie as tie
+use Rattle.encoding.proofs.Putting.{put-six}
+use Rattle.encoding.proofs.put_heading.Statement.{statement}
+use Rattle.encoding.proofs.put_heading.Tie as tie
 
 pub put-heading-spec : {M : Type 1} → statement M
 put-heading-spec =
@@ -13,9 +13,7 @@ put-heading-spec =
     (λ c. search needs)
     (λ c. simp length-set (omega arith))
     (λ c. simp length-set (omega arith))
-    (λ c. search needs)
     (λ c. simp length-set (omega arith))
-    (λ c. search needs)
     (λ c. simp length-set (omega arith))
     (λ c κs. search needs)
     (λ c. search needs)

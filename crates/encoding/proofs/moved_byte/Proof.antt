@@ -1,4 +1,4 @@
--- `writing::moved_byte` meets its contract. Assumes nothing.
+-- `encoding::moved_byte` meets its contract. Assumes nothing.
 use borrow.Author.Needs.{needs}
 use borrow.Author.Tests.{eq-eqb, ne-eqb}
 use mathlib.Core.Path.{_≡_}
@@ -9,8 +9,8 @@ use lib.Dec.{eqb}
 use lib.ListN.{getD}
 use Rattle.nodes.specs.Operators.{none}
 use Rattle.nodes.specs.Computed.{namedBy}
-use Rattle.writing.proofs.moved_byte.Statement.{statement}
-use Rattle.writing.proofs.moved_byte.Tie as tie
+use Rattle.encoding.proofs.moved_byte.Statement.{statement}
+use Rattle.encoding.proofs.moved_byte.Tie as tie
 
 module _ (numbers : List ℕ) (sort v : ℕ) where
   as-is : sort ≡ none → v ≡ cond (eqb sort none) v (getD numbers (namedBy v) 0)

@@ -8,10 +8,7 @@ use Prim.Native.Nat.{ℕ, suc, _+_, _*_, _<_, _≤_}
 use lib.ListN.{length, getD, take, drop, set, length-append, take-append-drop}
 use lib.Seq.{length-take-le, take-at, drop-at, drop-drop, take-suc, sets-eq}
 use Rattle.nodes.specs.declared.Raw.{Raw}
-use Rattle.blocks.specs.Computed.{blank}
-use Rattle.writing.specs.Tables.{heading, fourBytes, encoded}
-use Rattle.writing.specs.Computed.{put}
-use Rattle.writing.proofs.Lengths.{length-encoded}
+use Rattle.encoding.specs.Encoding.{heading, fourBytes, encoded, blank, put}
 
 -- ---- bytes put into a list
 
@@ -36,6 +33,17 @@ put-put d at xs ys h =
     ∙ ap (λ (u : List ℕ). u ++ drop (at + length xs + length ys) d) (append-assoc (take at d) xs ys)
     ∙ ap (λ (n : ℕ). take at d ++ (xs ++ ys) ++ drop n d) e
 
+-- what is put before what was put
+pub put-before : (d hs xs : List ℕ) → length hs ≤ length d → put (put d (length hs) xs) 0 hs ≡ put d 0 (hs ++ xs)
+unfolding put
+put-before d hs xs h =
+    let a : take (length hs) d ++ xs ++ drop (length hs + length xs) d ≡ take (length hs) d ++ (xs ++ drop (length hs + length xs) d) =
+    append-assoc (take (length hs) d) xs (drop (length hs + length xs) d) in
+    let b = drop-at (take (length hs) d) (xs ++ drop (length hs + length xs) d) (0 + length hs) (length-take-le (length hs) d h ∙ omega arith) in
+    let e : length hs + length xs ≡ 0 + length (hs ++ xs) = rw (length-append hs xs) (omega arith) in
+    ap (λ (u : List ℕ). hs ++ drop (0 + length hs) u) a ∙ ap (λ (u : List ℕ). hs ++ u) b ∙ sym (append-assoc hs xs (drop (length hs + length xs) d))
+    ∙ ap (λ (n : ℕ). (hs ++ xs) ++ drop n d) e
+
 -- the stores of a node
 pub put-four : (d : List ℕ) (i a b x y : ℕ) → i + 4 ≤ length d → set (set (set (set d i a) (i + 1) b) (i + 2) x) (i + 3) y ≡ put d i (a ∷ b ∷ x ∷ y ∷ [])
 unfolding put
@@ -45,13 +53,28 @@ put-four d i a b x y h =
     let r : i + 3 ≡ suc (suc (suc i)) = omega arith in
     rw (p, q, r) (sets-eq (a ∷ b ∷ x ∷ y ∷ []) d i h)
 
--- the stores of the heading
-pub put-six : (s d : List ℕ) (m r : ℕ) → 6 ≤ length d → r ≡ m
-    → set (set (set (set (set (set d 0 83) 1 86) 2 84) 3 (getD s 3 0)) 4 (getD s 4 0)) 5 r ≡ put d 0 (heading s m)
+-- a copy, byte by byte
+pub put-byte : (d out : List ℕ) (i : ℕ) (xs : List ℕ) → out ≡ put d 0 (take i xs) → i < length xs → i < length d → length out ≡ length d
+    → set out i (getD xs i 0) ≡ put d 0 (take (i + 1) xs)
 unfolding put
-put-six s d m r h e = rw e (sets-eq (heading s m) d 0 h)
+put-byte d out i xs e l h same =
+    let a = getD xs i 0 in
+    let long : length (take i xs) ≡ i = length-take-le i xs (omega arith) in
+    let at : i ≡ 0 + length (take i xs) = omega arith in
+    sets-eq (a ∷ []) out i (omega arith) ∙ ap (λ (u : List ℕ). put u i (a ∷ [])) e ∙ ap (λ (j : ℕ). put (put d 0 (take i xs)) j (a ∷ [])) at
+    ∙ put-put d 0 (take i xs) (a ∷ []) (omega arith) ∙ ap (put d 0) (sym (take-suc xs i 0 l) ∙ ap (λ (j : ℕ). take j xs) (sym (add-one i)))
+
+-- the stores of the heading
+pub put-six : (d : List ℕ) (a b m r : ℕ) → 6 ≤ length d → r ≡ m → set (set (set (set (set (set d 0 83) 1 86) 2 84) 3 a) 4 b) 5 r ≡ put d 0 (heading a b m)
+unfolding put
+put-six d a b m r h e = rw e (sets-eq (heading a b m) d 0 h)
 
 -- ---- bytes of nodes
+
+pub length-encoded : (rs : List Raw) → length (encoded rs) ≡ 4 * length rs
+unfolding encoded
+length-encoded [] = refl
+length-encoded (r ∷ rs) = let h = length-encoded rs in omega arith
 
 pub encoded-append : (us vs : List Raw) → encoded (us ++ vs) ≡ encoded us ++ encoded vs
 unfolding encoded
