@@ -1,0 +1,2 @@
+-- What each step says.
+pub mod Stepping

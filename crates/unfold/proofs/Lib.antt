@@ -1,0 +1,2 @@
+-- Writing a piece after its operands.
+pub mod Writing

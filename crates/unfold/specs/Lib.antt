@@ -1,0 +1,2 @@
+-- What writing a piece leaves.
+pub mod Puts
