@@ -15,16 +15,16 @@ use Rattle.refusal.proofs.Given.{none-given, not-given-append, answers-after, a
 use Rattle.meaning.specs.Syntax.{Prop}
 use Rattle.meaning.specs.Meaning.{Level, level3, level2, level1, level0}
 use Rattle.meaning.specs.Pairs.{Atom, Pair, reading}
-use Rattle.table.specs.Check as Check
+use Rattle.nodes.specs.Operators.{newest}
+use Rattle.table.specs.Check.{refusalsTo}
 use Rattle.record.specs.declared.Reading.{Reading}
 use Rattle.record.specs.Record as Record
 use Rattle.record.specs.Record.{Reads}
 use Rattle.record.proofs.Samples.{length-samples}
 use Rattle.cells.specs.Shares.{longest}
 use Rattle.judgement.specs.declared.Judgement.{Judgement}
-use Rattle.settling.specs.Refusals.{judgeRefusals}
-use Rattle.judge.specs.Judges.{Judges}
-use Rattle.settling.proofs.Passing.{judge-passes}
+use Rattle.calls.specs.Refusals.{judgeRefusals}
+use Rattle.calls.specs.Judges.{Judges}
 use Rattle.line.specs.Program.{tablePart, recordPart, samplesOf, cleared, refusals, LineFor, Says}
 use Rattle.linetext.specs.Computed.{lineOf, Puts}
 use Rattle.linetext.proofs.Lines.{told-table, told-record, told-level}
@@ -53,7 +53,7 @@ record-node r words v a =
     omega arith
 
 pub table-node : (t : List ℕ) (n words : ℕ) (v : Verdict) → Answers (judgeRefusals t n words) v → v .node < 1000
-unfolding judgeRefusals Check.refusals
+unfolding judgeRefusals
 table-node t n words v a = let l = low-node 120 (judgeRefusals t n words) low v a in omega arith
   where
     few : ((k : ℕ) → ¬ ((k ≡ 0) × ((count t ≡ 0) ⊎ (120 < count t)))) → count t ≤ 120
@@ -82,7 +82,7 @@ table-node t n words v a = let l = low-node 120 (judgeRefusals t n words) low v 
                     λ _. (
                       lowest (few no4),
                       λ _.
-                          (at-zero, λ _. (at-zero, λ _. (at-zero, λ _. (at-zero, λ _. tt)))),
+                          (at-zero, λ _. (at-zero, λ _. (at-zero, λ _. (at-zero, λ _. (at-zero, λ _. tt))))),
                     ),
                   ),
                 ),
@@ -105,22 +105,24 @@ module _ (s : List ℕ) where
 
   -- the judge's refusals, of few samples and with room for every table, are the table's
   table-first : (n words : ℕ) → n ≤ longest → 7800 ≤ words → (v : Verdict) → ¬ (v .number ≡ 0) → Answers (judgeRefusals (tablePart s) n words) v → Answers (refusals s) v
-  unfolding judgeRefusals refusals Check.refusals Answers
-  table-first n words few room v z a = answers-after (Check.refusals (tablePart s)) (ofJudge n words) ofProgram v (λ _. own) a
+  unfolding judgeRefusals refusals Answers
+  table-first n words few room v z a = answers-after (refusalsTo newest (tablePart s)) (ofJudge n words) ofProgram v (λ _. own) a
     where
       own : Answers (ofJudge n words) v → Answers ofProgram v
       own (inl a) = inl a
       own (inr (x, inl a)) = inr (x, inl a)
-      own (inr (x, inr (y, inl (_, (_, g))))) = absurd (omega arith)
-      own (inr (x, inr (y, inr (_, inl (_, (_, (clock, right, g))))))) = absurd (y 0 (refl, (clock, right, omega arith)))
-      own (inr (x, inr (y, inr (_, inr (_, (e, _)))))) = absurd (z e)
+      own (inr (x, inr (y, inl a))) = inr (x, inr (y, inl a))
+      own (inr (x, inr (y, inr (m, inl (_, (_, g)))))) = absurd (omega arith)
+      own (inr (x, inr (y, inr (m, inr (_, inl (_, (_, (clock, right, g)))))))) = absurd (m 0 (refl, (clock, right, omega arith)))
+      own (inr (x, inr (y, inr (m, inr (_, inr (_, (e, _))))))) = absurd (z e)
 
   -- with none of them, the record's
   record-next : (n words : ℕ) (v : Verdict) → v .number ≡ 0 → Answers (judgeRefusals (tablePart s) n words) v → (u : Verdict) → Answers (Record.refusals (recordPart s) longest) u → Answers (refusals s) u
-  unfolding judgeRefusals refusals Check.refusals Answers
+  unfolding judgeRefusals refusals Answers
   record-next n words v z a u b =
-      let (table, (root, (count, _))) = not-given-append (Check.refusals (tablePart s)) (ofJudge n words) (judge-passes (tablePart s) n words v z a) in
-      answers-beyond (Check.refusals (tablePart s)) ofProgram u table (inr (root, inr (count, b)))
+      let none-of = none-given (judgeRefusals (tablePart s) n words) tt v z a .0 in
+      let (table, (root, (size, (count, _)))) = not-given-append (refusalsTo newest (tablePart s)) (ofJudge n words) none-of in
+      answers-beyond (refusalsTo newest (tablePart s)) ofProgram u table (inr (root, inr (size, inr (count, b))))
 
 -- ---- the line
 

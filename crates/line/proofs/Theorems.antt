@@ -15,15 +15,16 @@ use Rattle.refusal.proofs.Given.{answers-after, answers-none, none-given, not-g
 use Rattle.refusal.proofs.Unique.{Singles, single-when, singles-append, by-verdict}
 use Rattle.record.proofs.Unique.{record-singles}
 use Rattle.nodes.specs.Operators.{sequence, newest}
-use Rattle.table.specs.Check as Check
-use Rattle.table.proofs.Checking.{table-singles}
+use Rattle.table.specs.Check.{refusalsTo}
+use Rattle.table.proofs.CheckingTo.{table-singles}
+use Rattle.expansion.specs.Expansion.{expansion, tooLarge}
 use Rattle.rewrite.specs.Rewrites.{tooMany}
 use Rattle.record.specs.Record as Record
 use Rattle.cells.specs.Shares.{longest}
 use Rattle.judgement.specs.declared.Judgement.{Judgement}
 use Rattle.judgement.specs.Refusals.{wrongRoot}
-use Rattle.judge.proofs.Unique.{judge-unique}
-use Rattle.judge.proofs.Demands.{tested-meant}
+use Rattle.calls.proofs.Unique.{judge-unique}
+use Rattle.calls.proofs.Demands.{tested-meant}
 use Rattle.linetext.specs.Text.{levelLine, refusedLine}
 use Rattle.line.specs.Program.{tablePart, recordPart, samplesOf, cleared, refusals, LevelLine, LineFor, Says, Told}
 
@@ -32,7 +33,8 @@ use Rattle.line.specs.Program.{tablePart, recordPart, samplesOf, cleared
 line-singles : (s : List ℕ) → Singles (refusals s)
 unfolding refusals
 line-singles s =
-    singles-append (Check.refusals (tablePart s)) _ (table-singles (tablePart s)) (single-when 12 _, (single-when 13 _, record-singles (recordPart s) longest))
+    singles-append (refusalsTo newest (tablePart s)) (drop 9 (refusals s)) (table-singles newest (tablePart s))
+    (single-when 12 _, (single-when 13 _, (single-when 13 _, record-singles (recordPart s) longest)))
 
 pub line-unique : (s line other : List ℕ) → LineFor s line → LineFor s other → line ≡ other
 line-unique s line other a b =
@@ -95,11 +97,11 @@ module _ (s t : List ℕ) (long : 6 ≤ length s) (long′ : 6 ≤ length t) (sa
       rest (inr (versed, a)) = let (b, z) = f a in (inr (not-short, inr (marked′, inr (λ k y. versed k (y .0, λ m. y .1 (subst (Known newest) same-version m)), b))), z)
 
   -- of a table with too many nodes nothing else is asked
-  many-refused : 120 < count s → (rs ss : List Refusal) (v : Verdict) → Answers (Check.refusals s ++ rs) v → (Answers (Check.refusals t ++ ss) v) × (¬ (v .number ≡ 0))
-  unfolding Check.refusals Answers
-  many-refused h rs ss v = opening 0x54 newest (drop 3 (Check.refusals s) ++ rs) (drop 3 (Check.refusals t) ++ ss) v own
+  many-refused : 120 < count s → (rs ss : List Refusal) (v : Verdict) → Answers (refusalsTo newest s ++ rs) v → (Answers (refusalsTo newest t ++ ss) v) × (¬ (v .number ≡ 0))
+  unfolding Answers
+  many-refused h rs ss v = opening 0x54 newest (drop 3 (refusalsTo newest s) ++ rs) (drop 3 (refusalsTo newest t) ++ ss) v own
     where
-      own : Answers (drop 3 (Check.refusals s) ++ rs) v → (Answers (drop 3 (Check.refusals t) ++ ss) v) × (¬ (v .number ≡ 0))
+      own : Answers (drop 3 (refusalsTo newest s) ++ rs) v → (Answers (drop 3 (refusalsTo newest t) ++ ss) v) × (¬ (v .number ≡ 0))
       own (inl (n, (e, g))) = (inl (n, (e, inr (let c = same-count in omega arith))), λ z. omega arith)
       own (inr (few, _)) = absurd (few 0 (refl, inr h))
 
@@ -168,21 +170,22 @@ module _ (s u : List ℕ) (l : 997 ≤ length s) (l′ : 997 ≤ length u) (e : 
           long-refused (recordPart s) (recordPart u) (omega arith) (omega arith) begins g k v
 
       abbrev own : List ℕ → List ℕ → List Refusal
-      own t r = wrongRoot t sequence ∷ tooMany t ∷ Record.refusals r longest
+      own t r = wrongRoot t sequence ∷ tooLarge t ∷ tooMany (expansion t) ∷ Record.refusals r longest
 
       few : (Answers (refusals u) v) × (¬ (v .number ≡ 0))
-      unfolding refusals Check.refusals Record.refusals Answers
-      few = (subst (λ (t : List ℕ). Answers (Check.refusals t ++ own t (recordPart u)) v) tables (answers-after (Check.refusals (tablePart s)) (own (tablePart s) (recordPart s)) (own (tablePart s) (recordPart u)) v (λ _. later) a), not-accepted)
+      unfolding refusals Record.refusals Answers
+      few = (subst (λ (t : List ℕ). Answers (refusalsTo newest t ++ own t (recordPart u)) v) tables (answers-after (refusalsTo newest (tablePart s)) (own (tablePart s) (recordPart s)) (own (tablePart s) (recordPart u)) v (λ _. later) a), not-accepted)
         where
           later : Answers (own (tablePart s) (recordPart s)) v → Answers (own (tablePart s) (recordPart u)) v
           later (inl b) = inl b
           later (inr (x, inl b)) = inr (x, inl b)
-          later (inr (x, inr (y, b))) = inr (x, inr (y, refuses b .0))
+          later (inr (x, inr (y, inl b))) = inr (x, inr (y, inl b))
+          later (inr (x, inr (y, inr (m, b)))) = inr (x, inr (y, inr (m, refuses b .0)))
 
           not-accepted : ¬ (v .number ≡ 0)
           not-accepted z =
               let (none, node) = none-given (refusals s) tt v z a in
-              let (_, (_, (_, left))) = not-given-append (Check.refusals (tablePart s)) (own (tablePart s) (recordPart s)) none in
+              let (_, (_, (_, (_, left)))) = not-given-append (refusalsTo newest (tablePart s)) (own (tablePart s) (recordPart s)) none in
               refuses (answers-none (Record.refusals (recordPart s) longest) v left z node) .1 z
 
   both : (v : Verdict) → Answers (refusals s) v → (Answers (refusals u) v) × (¬ (v .number ≡ 0))

@@ -12,15 +12,16 @@ use Rattle.meaning.specs.Syntax.{Prop}
 use Rattle.meaning.specs.Meaning.{Level}
 use Rattle.meaning.specs.Tested.{Tests}
 use Rattle.meaning.specs.Pairs.{Atom, reading, pairs}
-use Rattle.nodes.specs.Operators.{sequence}
+use Rattle.nodes.specs.Operators.{sequence, newest}
 use Rattle.table.specs.Trees.{RootP}
-use Rattle.table.specs.Check as Check
+use Rattle.table.specs.Check.{refusalsTo}
+use Rattle.expansion.specs.Expansion.{expansion, tooLarge}
 use Rattle.rewrite.specs.Rewrites.{tooMany}
 use Rattle.record.specs.Record as Record
 use Rattle.cells.specs.Shares.{longest}
 use Rattle.judgement.specs.declared.Judgement.{Judgement}
 use Rattle.judgement.specs.Refusals.{wrongRoot}
-use Rattle.judge.specs.Judges.{Judges}
+use Rattle.calls.specs.Judges.{Judges}
 use Rattle.linetext.specs.Text.{levelLine, refusedLine}
 
 -- the table part is 6 + 4·count bytes, or all there is
@@ -37,7 +38,9 @@ samplesOf s = Record.samples (recordPart s) (count (recordPart s))
 
 -- table refusals (with 12 and 13) come before the record's, which is read into as many words as it may have samples
 unfoldable pub refusals : List ℕ → List Refusal
-refusals s = Check.refusals (tablePart s) ++ (wrongRoot (tablePart s) sequence ∷ tooMany (tablePart s) ∷ Record.refusals (recordPart s) longest)
+refusals s =
+    refusalsTo newest (tablePart s)
+    ++ (wrongRoot (tablePart s) sequence ∷ tooLarge (tablePart s) ∷ tooMany (expansion (tablePart s)) ∷ Record.refusals (recordPart s) longest)
 
 -- a workspace of 7,800 words, cleared
 abbrev pub cleared : List ℕ

@@ -1,5 +1,5 @@
 // The program's answer: the line for any input, a table and then a record. How a line is written stands in `linetext`.
-use judge::judge;
+use calls::judge;
 use linetext::put_line;
 ghost use mathlib.Core.Path.{_≡_};
 ghost use Prim.Native.Nat.{_<_, _≤_};
