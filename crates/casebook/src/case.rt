@@ -5,6 +5,13 @@ use casetext::answers;
 use casetext::lists;
 use casetext::output;
 use casetext::text;
+use nodes::operators::NEWEST;
+
+// Which table is written: the expansion, or the rewriting.
+enum Question {
+    Expand,
+    Rewrite,
+}
 
 // Runs the line and prints its answer.
 pub fn run(line: &[u8], short: bool) {
@@ -47,7 +54,7 @@ fn run_body(head: &[u8], body: &[u8], short: bool) -> bool {
 fn call(head: &[u8], bytes: &[u8], short: bool) -> bool {
     let checked = text::after(head, b"check ");
     if checked > 0 {
-        answers::table(&head[checked..], table::check(bytes));
+        answers::table(&head[checked..], table::check_to(bytes, NEWEST));
         return true;
     }
     let run = text::after(head, b"program ");
@@ -61,7 +68,11 @@ fn call(head: &[u8], bytes: &[u8], short: bool) -> bool {
     }
     let size = text::after(head, b"rewrite ");
     if size > 0 {
-        return rewrite_table(&head[size..], bytes, short);
+        return write_table(&head[size..], bytes, Question::Rewrite, short);
+    }
+    let size = text::after(head, b"expand ");
+    if size > 0 {
+        return write_table(&head[size..], bytes, Question::Expand, short);
     }
     false
 }
@@ -92,8 +103,8 @@ fn read_into(label: &[u8], bytes: &[u8], words: &mut [u64]) {
     answers::record(label, got.verdict, got.count, words);
 }
 
-// Rewrites a table into as many bytes as the text, a number and a label, begins with.
-fn rewrite_table(text: &[u8], bytes: &[u8], short: bool) -> bool {
+// Writes a table into as many bytes as the text, a number and a label, begins with.
+fn write_table(text: &[u8], bytes: &[u8], question: Question, short: bool) -> bool {
     let asked = text::opening(text, 500);
     let lent = asked.value;
     let label = asked.rest;
@@ -101,13 +112,21 @@ fn rewrite_table(text: &[u8], bytes: &[u8], short: bool) -> bool {
         return false;
     }
     let mut space = [0u8; 500];
-    rewrite_into(&text[label..], bytes, &mut space[0..lent], short);
+    write_into(&text[label..], bytes, question, &mut space[0..lent], short);
     true
 }
 
 // The bytes are printed whole, so that those left alone are seen.
-fn rewrite_into(label: &[u8], bytes: &[u8], out: &mut [u8], short: bool) {
+fn write_into(label: &[u8], bytes: &[u8], question: Question, out: &mut [u8], short: bool) {
     output::fill(out);
-    let got = rewrite::rewrite(bytes, out);
-    tables::rewriting(label, got.verdict, got.count, out, short);
+    match question {
+        Question::Expand => {
+            let got = expand::expand(bytes, out);
+            tables::written(label, got.verdict, got.count, out, short);
+        }
+        Question::Rewrite => {
+            let got = calls::rewrite(bytes, out);
+            tables::written(label, got.verdict, got.count, out, short);
+        }
+    }
 }

@@ -3,6 +3,7 @@
 //     # a comment, as a blank line, is skipped
 //     check LABEL: 53 56 54 01 00 00*16
 //     read K LABEL: 53 56 57 01 00 00
+//     expand K LABEL: 53 56 54 03 00 03 01 00*3 10 00*3 17 01 00 21
 //     rewrite K LABEL: 53 56 54 01 00 02 01 00*3 10 00*3
 //     judge W LABEL: 53 56 54 01 00 03 01 00*3 10 00*3 20 01 00*2 / 1 5 2*3
 //     plain LABEL: 53 56 54 01 00 03 01 00*3 10 00*3 20 01 00*2 / 1 5 2*3
@@ -10,8 +11,8 @@
 //     program LABEL: 53 56 54 01 00 03 01 00*3 10 00*3 20 01 00*2 53 56 57 01 00 00
 //
 // A case's bytes stand after its last colon. A byte is two hexadecimal digits, and `*N` after it repeats it N times. K words, 64 at most and each holding 7,
-// are lent to `read`, and K bytes, 500 at most and the one at place i holding 128 + i % 127, to `rewrite`. The bytes of `program` are its whole input, and the
-// line that it answers is printed.
+// are lent to `read`, and K bytes, 500 at most and the one at place i holding 128 + i % 127, to `expand` and `rewrite`. The bytes of `program` are its whole
+// input, and the line that it answers is printed.
 //
 // The samples of `judge`, `plain` and `ends` stand after a slash, 100 at most: each has 1 to 16 hexadecimal digits, and `*N` repeats it. To `judge` and `ends` W
 // words, 7,865 at most (120 shares of 65, and one share more) and the one at place i holding 0xE700000000000000 + i, are lent. The match ends are one number: bit k

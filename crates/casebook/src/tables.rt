@@ -1,4 +1,4 @@
-// What rewriting answered: a table in the bytes that were lent, its nodes as document 01 writes them: 3(1,0) has operator 3, x 1 and y 0.
+// What expanding or rewriting answered: a table in the bytes that were lent, its nodes as document 01 writes them: 3(1,0) has operator 3, x 1 and y 0.
 use casetext::answers::accepted;
 use casetext::answers::put_count;
 use casetext::answers::put_label;
@@ -76,8 +76,8 @@ fn put_output(v: Verdict, count: usize, out: &[u8], short: bool) {
     }
 }
 
-// What rewriting a table answered, and the bytes that were lent.
-pub fn rewriting(label: &[u8], v: Verdict, count: usize, out: &[u8], short: bool) {
+// What was answered, and the bytes that were lent.
+pub fn written(label: &[u8], v: Verdict, count: usize, out: &[u8], short: bool) {
     put_label(label);
     put_count(v, count, b" nodes");
     put(b", bytes");

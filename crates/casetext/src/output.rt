@@ -1,4 +1,4 @@
-// The bytes that are lent to `rewrite`. Before the call place i holds 128 + i % 127, so that a byte which was written or moved is seen: a table's bytes are all
+// The bytes that are lent to `expand` and `rewrite`. Before the call place i holds 128 + i % 127, so that a byte which was written or moved is seen: a table's bytes are all
 // below 128. Only a move by a multiple of 127 places would not be seen.
 use crate::print::put;
 use crate::print::put_byte;

@@ -35,7 +35,8 @@ impl Difference {
             (Answer::Read(_, ours), Answer::Read(_, theirs))
             | (Answer::Judge(_, ours), Answer::Judge(_, theirs))
             | (Answer::Ends(_, ours), Answer::Ends(_, theirs)) => first("word", ours, theirs),
-            (Answer::Rewrite(_, ours), Answer::Rewrite(_, theirs)) => first("byte", ours, theirs),
+            (Answer::Expand(_, ours), Answer::Expand(_, theirs))
+            | (Answer::Rewrite(_, ours), Answer::Rewrite(_, theirs)) => first("byte", ours, theirs),
             _ => None,
         }
     }

@@ -7,6 +7,7 @@ pub fn answer(case: &Case) -> Answer {
     match case {
         Case::Check { table } => Answer::Check(verdict(raw::check(table))),
         Case::Read { record, words } => read(record, lent_samples(*words)),
+        Case::Expand { table, bytes } => expand(table, lent_bytes(*bytes)),
         Case::Rewrite { table, bytes } => rewrite(table, lent_bytes(*bytes)),
         Case::Judge {
             table,
@@ -37,6 +38,15 @@ fn read(record: &[u8], mut out: Vec<u64>) -> Answer {
         count: reading.count,
     };
     Answer::Read(answer, out)
+}
+
+fn expand(table: &[u8], mut out: Vec<u8>) -> Answer {
+    let expansion = raw::expand(table, &mut out);
+    let answer = second::Expansion {
+        verdict: verdict(expansion.verdict),
+        count: expansion.count,
+    };
+    Answer::Expand(answer, out)
 }
 
 fn rewrite(table: &[u8], mut out: Vec<u8>) -> Answer {

@@ -3,16 +3,20 @@ use crate::run::USUAL;
 use second::{Answer, Case};
 use std::fmt;
 
-const KINDS: [&str; 7] = [
-    "check", "read", "rewrite", "judge", "plain", "ends", "program",
+const KINDS: [&str; 8] = [
+    "check", "read", "rewrite", "judge", "plain", "ends", "program", "expand",
 ];
 const READ: usize = 1;
 const JUDGE: usize = 3;
 const PLAIN: usize = 4;
+const EXPAND: usize = 7;
 const TESTED: [&str; 2] = ["no", "yes"];
 
 /// What accepted tables are told apart by: their version, and whether some node asks if a signal has risen or has fallen.
-const TABLES: [&str; 4] = ["version 1", "version 2", "risen", "fallen"];
+const TABLES: [&str; 5] = ["version 1", "version 2", "version 3", "risen", "fallen"];
+
+/// The operators that are expanded.
+const DERIVED: [u8; 11] = [23, 24, 25, 26, 41, 42, 43, 44, 45, 46, 47];
 
 /// The operators that decide whether a record tests a table that has them, with their names.
 const DECIDING: [(&str, u8); 4] = [
@@ -23,21 +27,23 @@ const DECIDING: [(&str, u8); 4] = [
 ];
 
 /// The refusals that each kind can give: a run of the usual size has each of them, some about 50 times.
-const REFUSALS: [&[usize]; 7] = [
+const REFUSALS: [&[usize]; 8] = [
     &[1, 2, 3, 4, 5, 6, 7, 8, 9],
     &[1, 2, 3, 5, 10, 15],
     &[1, 2, 3, 4, 5, 6, 7, 8, 9, 13, 15],
     &[1, 2, 3, 4, 5, 6, 7, 8, 9, 10, 11, 12, 13],
-    &[1, 2, 3, 4, 5, 6, 7, 8, 9, 10, 12],
+    &[1, 2, 3, 4, 5, 6, 7, 8, 9, 10, 12, 13],
     &[1, 2, 3, 4, 5, 6, 7, 8, 9, 10, 11, 12, 13, 14],
     &[1, 2, 3, 4, 5, 6, 7, 8, 9, 10, 12, 13],
+    &[1, 2, 3, 4, 5, 6, 7, 8, 9, 13, 15],
 ];
 
-/// How many answers there were by kind and number, where 0 is an acceptance, and how many of the accepted had a table of each of TABLES. Of those judged, by either judge, how many had each level, how many were tested, and how many of each with each of DECIDING. Of those that the plain judge accepted and whose rewriting has too many nodes for the other, how many had each level and how many were tested.
+/// How many answers there were by kind and number, where 0 is an acceptance, and how many of the accepted had a table of each of TABLES. Of those expanded, how many had each of DERIVED. Of those judged, by either judge, how many had each level, how many were tested, and how many of each with each of DECIDING. Of those that the plain judge accepted and whose rewriting has too many nodes for the other, how many had each level and how many were tested.
 #[derive(Clone, Debug, Default, PartialEq, Eq)]
 pub struct Summary {
-    numbers: [[u64; 16]; 7],
-    tables: [[u64; 4]; 7],
+    numbers: [[u64; 16]; 8],
+    tables: [[u64; 5]; 8],
+    derived: [u64; 11],
     levels: [u64; 4],
     tested: [u64; 2],
     decided: [[u64; 2]; 4],
@@ -60,6 +66,13 @@ impl Summary {
         if told.number == 0 {
             sum(&mut self.tables[told.kind], &table_counts(case));
         }
+        if told.kind == EXPAND && told.number == 0 {
+            let table = table(case);
+            sum(
+                &mut self.derived,
+                &DERIVED.map(|it| u64::from(has(table, it))),
+            );
+        }
         if let Some((level, tested)) = told.judged {
             self.levels[level] += 1;
             self.tested[usize::from(tested)] += 1;
@@ -80,6 +93,7 @@ impl Summary {
             other.numbers.as_flattened(),
         );
         sum(self.tables.as_flattened_mut(), other.tables.as_flattened());
+        sum(&mut self.derived, &other.derived);
         sum(&mut self.levels, &other.levels);
         sum(&mut self.tested, &other.tested);
         sum(
@@ -130,6 +144,9 @@ impl Summary {
         for (number, had) in of_any_kind(&self.numbers).iter().enumerate().skip(1) {
             ask(format!("refused {number}"), *had, cases / 4000);
         }
+        for (operator, had) in DERIVED.iter().zip(self.derived) {
+            ask(format!("expanded {operator}"), had, cases / 1000);
+        }
         for (level, had) in self.levels.iter().enumerate() {
             ask(format!("level {level}"), *had, cases / 500);
         }
@@ -152,10 +169,11 @@ impl Summary {
 }
 
 /// 1 for each of TABLES that holds of the table of an accepted case, else 0.
-fn table_counts(case: &Case) -> [u64; 4] {
+fn table_counts(case: &Case) -> [u64; 5] {
     let table = table(case);
     let version = |asked: u8| table.get(3) == Some(&asked);
-    [version(1), version(2), has(table, 5), has(table, 6)].map(u64::from)
+    let changes = [has(table, 5), has(table, 6)];
+    [version(1), version(2), version(3), changes[0], changes[1]].map(u64::from)
 }
 
 /// The table of an accepted case; a record has none.
@@ -163,6 +181,7 @@ fn table(case: &Case) -> &[u8] {
     match case {
         Case::Read { .. } => &[],
         Case::Check { table } | Case::Rewrite { table, .. } => table,
+        Case::Expand { table, .. } => table,
         Case::Judge { table, .. } | Case::Plain { table, .. } => table,
         Case::Ends { table, .. } => table,
         Case::Program { input } => &input[..6 + 4 * usize::from(input[5])],
@@ -181,7 +200,7 @@ fn has(table: &[u8], operator: u8) -> bool {
 }
 
 /// The counts of all kinds together.
-fn of_any_kind<const N: usize>(by_kind: &[[u64; N]; 7]) -> [u64; N] {
+fn of_any_kind<const N: usize>(by_kind: &[[u64; N]; 8]) -> [u64; N] {
     let mut all = [0; N];
     for of_kind in by_kind {
         sum(&mut all, of_kind);
@@ -201,6 +220,7 @@ impl Told {
             Answer::Check(verdict) => (0, *verdict, None),
             Answer::Read(reading, _) => (READ, reading.verdict, None),
             Answer::Rewrite(rewriting, _) => (2, rewriting.verdict, None),
+            Answer::Expand(expansion, _) => (EXPAND, expansion.verdict, None),
             Answer::Judge(judgement, _) => (JUDGE, judgement.verdict, Some(*judgement)),
             Answer::Plain(judgement) => (PLAIN, judgement.verdict, Some(*judgement)),
             Answer::Ends(ends, _) => (5, ends.verdict, None),
@@ -240,11 +260,13 @@ impl fmt::Display for Summary {
         let tables = list(TABLES.iter().zip(of_any_kind(&self.tables)));
         let judged = list(TABLES.iter().zip(self.tables[JUDGE]));
         let refusals = list((0..).zip(of_any_kind(&self.numbers)).skip(1));
+        let derived = list(DERIVED.iter().zip(self.derived));
         let levels = list((0..).zip(self.levels));
         let tested = list(TESTED.iter().zip(self.tested).rev());
         writeln!(f, "tables   {tables}")?;
         writeln!(f, "judged   {judged}")?;
         writeln!(f, "refusals {refusals}")?;
+        writeln!(f, "expanded {derived}")?;
         writeln!(f, "levels   {levels}")?;
         write!(f, "tested   {tested}")?;
         for ((name, _), decided) in DECIDING.iter().zip(self.decided) {

@@ -1,4 +1,5 @@
 //! The tester, tested: sides that answer wrong on purpose are found out, shrunk and printed.
+mod expanding;
 mod plain;
 mod reading;
 mod tested;
@@ -226,12 +227,12 @@ fn a_seed_fixes_the_cases_and_no_run_passes_on_nothing() {
 
     let of_flags = 2 + 4 * 2;
     let past_13 = 4 + 2;
-    let of_all = 1 + 14 + 6 * 4 + 15 + 4 + of_flags + past_13;
+    let of_all = 1 + 16 + 7 * 5 + 15 + 11 + 4 + of_flags + past_13;
     let lacking = Summary::default().lacking(20_000);
     assert_eq!(lacking.len(), of_all);
     assert_eq!(lacking[0], "0 cases, not 20000 or more");
 
-    let of_a_kind = 9 + 6 + 11 + 13 + 11 + 14 + 12;
+    let of_a_kind = 9 + 6 + 11 + 13 + 12 + 14 + 12 + 11;
     let lacking = Summary::default().lacking(USUAL);
     assert_eq!(lacking.len(), of_all + of_a_kind);
 }

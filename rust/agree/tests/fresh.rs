@@ -1,5 +1,5 @@
-//! The library against `second`, on cases that are new each time.
-use agree::{library_answer, Run};
+//! The library against `second`, on cases that are listed and on cases that are new each time.
+use agree::{compare_listed, library_answer, Run};
 use std::process::ExitCode;
 use std::time::Instant;
 
@@ -14,6 +14,8 @@ fn main() -> ExitCode {
 }
 
 fn compare() -> Result<(), String> {
+    let listed = compare_listed(library_answer, second::answer)?;
+    println!("agree: no difference in {listed} listed cases");
     let run = Run::from_environment()?;
     println!("agree: {run}");
     let start = Instant::now();

@@ -1,5 +1,6 @@
 //! The entry points, each with its refusals in the page's order.
 
+use crate::expansion::expanded;
 use crate::meaning::Meaning;
 use crate::node::{Node, Sort};
 use crate::record::{self, MOST_SAMPLES};
@@ -8,11 +9,19 @@ use crate::rows::{rows, WORDS_PER_NODE};
 use crate::table::{self, table_bytes, Table, MOST_NODES};
 use crate::tested::Testing;
 use crate::verdict::{refuse_if, Verdict};
+use crate::versions::Call;
 use crate::words::Tail;
 
 /// What reading a record answers.
 #[derive(Clone, Copy, Debug, PartialEq, Eq)]
 pub struct Reading {
+    pub verdict: Verdict,
+    pub count: usize,
+}
+
+/// What expanding a table answers.
+#[derive(Clone, Copy, Debug, PartialEq, Eq)]
+pub struct Expansion {
     pub verdict: Verdict,
     pub count: usize,
 }
@@ -42,7 +51,7 @@ pub struct MatchEnds {
 
 /// Checks a table: refusals 1 to 9.
 pub fn check(table: &[u8]) -> Verdict {
-    match table::checked(table) {
+    match table::checked(table, Call::Check.newest()) {
         Ok(_) => Verdict::ACCEPTED,
         Err(refusal) => refusal,
     }
@@ -64,27 +73,45 @@ pub fn read(record: &[u8], out: &mut [u64]) -> Reading {
     }
 }
 
-/// Rewrites a table into `out`, with its version: refusals 1 to 9, 13, 15.
+/// Expands a table into `out`, version 3 as version 2 and older ones as they
+/// are: refusals 1 to 9, 13, 15.
+pub fn expand(table: &[u8], out: &mut [u8]) -> Expansion {
+    let expanded = table::checked(table, Call::Expand.newest()).and_then(in_base_operators);
+    let (verdict, count) = write_table(expanded, out);
+    Expansion { verdict, count }
+}
+
+/// Rewrites a table, expanded first, into `out`, with its version: refusals 1 to
+/// 9, 13, 15.
 pub fn rewrite(table: &[u8], out: &mut [u8]) -> Rewriting {
-    let rewritten = table::checked(table).and_then(|Table { version, nodes }| {
-        let nodes = rewritten_in_limits(&nodes)?;
-        refuse_if(out.len() < 6 + 4 * nodes.len(), 15)?;
-        Ok(Table { version, nodes })
+    let checked = table::checked(table, Call::Rewrite.newest());
+    let rewritten = checked.and_then(in_base_operators).and_then(|table| {
+        let nodes = rewritten_in_limits(&table.nodes)?;
+        Ok(Table { nodes, ..table })
     });
-    match rewritten {
+    let (verdict, count) = write_table(rewritten, out);
+    Rewriting { verdict, count }
+}
+
+/// Writes a table that was not refused into `out`, where it fits: refusal 15.
+fn write_table(table: Result<Table, Verdict>, out: &mut [u8]) -> (Verdict, usize) {
+    let fitting = table.and_then(|table| {
+        refuse_if(out.len() < 6 + 4 * table.nodes.len(), 15)?;
+        Ok(table)
+    });
+    match fitting {
         Ok(Table { version, nodes }) => {
             let bytes = table_bytes(version, &nodes);
             out[..bytes.len()].copy_from_slice(&bytes);
-            let (verdict, count) = (Verdict::ACCEPTED, nodes.len());
-            Rewriting { verdict, count }
+            (Verdict::ACCEPTED, nodes.len())
         }
-        Err(verdict) => Rewriting { verdict, count: 0 },
+        Err(verdict) => (verdict, 0),
     }
 }
 
 /// Judges the samples: refusals 1 to 9, 12, 13, 10, 11.
 pub fn judge(table: &[u8], samples: &[u64], workspace: &mut [u64]) -> Judgement {
-    let judged = judge_table(table).and_then(|(nodes, rewritten)| {
+    let judged = judge_table(table, Call::Judge).and_then(|(nodes, rewritten)| {
         refuse_if(samples.len() > MOST_SAMPLES, 10)?;
         refuse_if(workspace.len() < WORDS_PER_NODE * rewritten.len(), 11)?;
         Ok((nodes, rewritten))
@@ -100,16 +127,18 @@ pub fn judge(table: &[u8], samples: &[u64], workspace: &mut [u64]) -> Judgement 
 
 /// Judges without a workspace, as if one of any size were lent.
 pub fn level(table: &[u8], samples: &[u64]) -> Judgement {
-    let judged = judge_table(table).and_then(|(nodes, _)| {
+    let judged = judge_table(table, Call::Judge).and_then(|(nodes, _)| {
         refuse_if(samples.len() > MOST_SAMPLES, 10)?;
         Ok(nodes)
     });
     judgement_or_refusal(judged, samples)
 }
 
-/// Judges by the clocked table alone, with nothing lent: refusals 1 to 9, 12, 10.
+/// Judges by the clocked table alone, with nothing lent: refusals 1 to 9, 12, 13
+/// for the expansion, 10.
 pub fn plain_judge(table: &[u8], samples: &[u64]) -> Judgement {
-    let judged = nodes_with_root(table, Sort::Property).and_then(|nodes| {
+    let newest = Call::Plain.newest();
+    let judged = nodes_with_root(table, newest, Sort::Property).and_then(|nodes| {
         refuse_if(samples.len() > MOST_SAMPLES, 10)?;
         Ok(nodes)
     });
@@ -118,7 +147,8 @@ pub fn plain_judge(table: &[u8], samples: &[u64]) -> Judgement {
 
 /// Match ends from a start: refusals 1 to 9, 12, 13, 10, 14, 11.
 pub fn match_ends(table: &[u8], samples: &[u64], start: usize, workspace: &mut [u64]) -> MatchEnds {
-    let tables = table_with_root(table, Sort::Sequence).and_then(|(nodes, rewritten)| {
+    let newest = Call::Ends.newest();
+    let tables = table_with_root(table, newest, Sort::Sequence).and_then(|(nodes, rewritten)| {
         refuse_if(samples.len() > MOST_SAMPLES, 10)?;
         refuse_if(start > samples.len(), 14)?;
         refuse_if(workspace.len() < WORDS_PER_NODE * rewritten.len(), 11)?;
@@ -141,7 +171,7 @@ pub fn match_ends(table: &[u8], samples: &[u64], start: usize, workspace: &mut [
 pub fn line(input: &[u8]) -> String {
     let count = input.get(5).map_or(0, |&count| usize::from(count));
     let (table, record) = input.split_at(input.len().min(6 + 4 * count));
-    let judged = judge_table(table).and_then(|_| record::checked(record));
+    let judged = judge_table(table, Call::Program).and_then(|_| record::checked(record));
     match judged {
         Ok(samples) => {
             let judgement = level(table, &samples);
@@ -152,24 +182,39 @@ pub fn line(input: &[u8]) -> String {
     }
 }
 
-/// A table for the judge and its rewriting: refusals 1 to 9, 12, 13.
-fn judge_table(table: &[u8]) -> Result<(Vec<Node>, Vec<Node>), Verdict> {
-    table_with_root(table, Sort::Property)
+/// A table for the judge, expanded, and its rewriting: refusals 1 to 9, 12, 13.
+fn judge_table(table: &[u8], call: Call) -> Result<(Vec<Node>, Vec<Node>), Verdict> {
+    table_with_root(table, call.newest(), Sort::Property)
 }
 
-/// A table with a root of the sort asked for, and its rewriting.
-fn table_with_root(table: &[u8], sort: Sort) -> Result<(Vec<Node>, Vec<Node>), Verdict> {
-    let nodes = nodes_with_root(table, sort)?;
+/// A table with a root of the sort asked for, expanded, and its rewriting.
+fn table_with_root(
+    table: &[u8],
+    newest: u16,
+    sort: Sort,
+) -> Result<(Vec<Node>, Vec<Node>), Verdict> {
+    let nodes = nodes_with_root(table, newest, sort)?;
     let rewritten = rewritten_in_limits(&nodes)?;
     Ok((nodes, rewritten))
 }
 
-/// The nodes of a table with a root of the sort asked for: refusals 1 to 9, 12.
-fn nodes_with_root(table: &[u8], sort: Sort) -> Result<Vec<Node>, Verdict> {
-    let nodes = table::checked(table)?.nodes;
-    let right = nodes.last().map(|root| root.sort()) == Some(sort);
+/// The nodes of a table with a root of the sort asked for, expanded: refusals 1
+/// to 9, 12, and 13 for the expansion.
+fn nodes_with_root(table: &[u8], newest: u16, sort: Sort) -> Result<Vec<Node>, Verdict> {
+    let table = table::checked(table, newest)?;
+    let right = table.nodes.last().map(|root| root.sort()) == Some(sort);
     refuse_if(!right, 12)?;
-    Ok(nodes)
+    Ok(in_base_operators(table)?.nodes)
+}
+
+/// A table of version 3 as the version 2 table of its expansion, or refusal 13
+/// for too many nodes; an older one as it is.
+pub fn in_base_operators(table: Table) -> Result<Table, Verdict> {
+    if table.version < 3 {
+        return Ok(table);
+    }
+    let nodes = expanded(&table.nodes, MOST_NODES).ok_or(Verdict::refused(13))?;
+    Ok(Table { version: 2, nodes })
 }
 
 /// The rewritten table, or refusal 13 for too many nodes.

@@ -1,6 +1,6 @@
 //! A case is one call of an entry point; its answer is all that came of it.
 
-use crate::answers::{self, Judgement, MatchEnds, Reading, Rewriting};
+use crate::answers::{self, Expansion, Judgement, MatchEnds, Reading, Rewriting};
 use crate::verdict::Verdict;
 
 /// One call, with what is lent to it.
@@ -12,6 +12,10 @@ pub enum Case {
     Read {
         record: Vec<u8>,
         words: usize,
+    },
+    Expand {
+        table: Vec<u8>,
+        bytes: usize,
     },
     Rewrite {
         table: Vec<u8>,
@@ -43,6 +47,7 @@ pub enum Case {
 pub enum Answer {
     Check(Verdict),
     Read(Reading, Vec<u64>),
+    Expand(Expansion, Vec<u8>),
     Rewrite(Rewriting, Vec<u8>),
     Judge(Judgement, Vec<u64>),
     Plain(Judgement),
@@ -56,6 +61,7 @@ impl Answer {
         match self {
             Answer::Check(verdict) => Some(*verdict),
             Answer::Read(reading, _) => Some(reading.verdict),
+            Answer::Expand(expansion, _) => Some(expansion.verdict),
             Answer::Rewrite(rewriting, _) => Some(rewriting.verdict),
             Answer::Judge(judgement, _) | Answer::Plain(judgement) => Some(judgement.verdict),
             Answer::Ends(ends, _) => Some(ends.verdict),
@@ -69,7 +75,7 @@ pub fn lent_samples(words: usize) -> Vec<u64> {
     vec![7; words]
 }
 
-/// The bytes lent for rewriting: byte i is 128 + i % 127.
+/// The bytes lent for expanding and for rewriting: byte i is 128 + i % 127.
 pub fn lent_bytes(bytes: usize) -> Vec<u8> {
     (0..bytes).map(|i| 128 + (i % 127) as u8).collect()
 }
@@ -88,6 +94,10 @@ pub fn answer(case: &Case) -> Answer {
         Case::Read { record, words } => {
             let mut lent = lent_samples(*words);
             Answer::Read(answers::read(record, &mut lent), lent)
+        }
+        Case::Expand { table, bytes } => {
+            let mut lent = lent_bytes(*bytes);
+            Answer::Expand(answers::expand(table, &mut lent), lent)
         }
         Case::Rewrite { table, bytes } => {
             let mut lent = lent_bytes(*bytes);

@@ -6,7 +6,7 @@ use crate::table::{readable, table_bytes, Table};
 
 /// What a header may get as its version. 257, 258 and 512 have a byte 1 or 2
 /// but are neither; 2 is no version of a record.
-const VERSIONS: [u16; 6] = [0, 2, 3, 257, 258, 512];
+const VERSIONS: [u16; 7] = [0, 2, 3, 4, 257, 258, 512];
 
 /// Damages a table once, in one of many ways.
 pub fn damage_table(random: &mut Random, bytes: &mut Vec<u8>) {
@@ -58,7 +58,7 @@ pub fn damage_header(random: &mut Random, bytes: &mut Vec<u8>) {
 }
 
 /// Changes the version of a header.
-fn set_version(bytes: &mut [u8], version: u16) {
+pub fn set_version(bytes: &mut [u8], version: u16) {
     bytes[3..5].copy_from_slice(&version.to_le_bytes());
 }
 
@@ -161,7 +161,7 @@ fn move_operand(random: &mut Random, bytes: &mut [u8]) {
     };
     let mut moves = Vec::new();
     for (index, node) in nodes.iter().enumerate() {
-        let (_, x, _) = node.parts();
+        let (_, [x, ..]) = node.parts();
         for operand in node.operands() {
             let sort = nodes[operand].sort();
             let others = (0..index).filter(|&other| other != operand);
@@ -191,14 +191,14 @@ fn make_hollow(random: &mut Random, bytes: &mut Vec<u8>) {
         return;
     }
     let r = random.pick(&sequences);
-    *bytes = table_bytes(version, &with_node_above(&nodes, r, Node::Empty(r)));
+    *bytes = table_bytes(version, &with_nodes_above(&nodes, r, &[Node::Empty(r)]));
 }
 
-/// The table with a new node right after node r that takes r's place.
-fn with_node_above(nodes: &[Node], r: usize, above: Node) -> Vec<Node> {
-    let moved = |old: usize| if old >= r { old + 1 } else { old };
+/// The table with new nodes right after node r, the last of which takes r's place.
+pub fn with_nodes_above(nodes: &[Node], r: usize, above: &[Node]) -> Vec<Node> {
+    let moved = |old: usize| if old >= r { old + above.len() } else { old };
     let mut out: Vec<Node> = nodes[..=r].to_vec();
-    out.push(above);
+    out.extend(above);
     out.extend(nodes[r + 1..].iter().map(|node| node.renumbered(moved)));
     out
 }

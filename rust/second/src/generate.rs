@@ -1,15 +1,18 @@
 //! Random cases: a pure function of the seed.
 
+mod expand;
+
 use crate::case::Case;
+use crate::count;
 use crate::damage::{damage_bytes, damage_header, damage_table};
 use crate::grow::{filled, grown, grown_once, Plan, Shape};
 use crate::node::{Node, Sort};
 use crate::random::Random;
 use crate::record::record_bytes;
 use crate::recording::{good_samples, signals, too_many_samples};
-use crate::rewriting::rewritten;
 use crate::rows::WORDS_PER_NODE;
 use crate::table::{table_bytes, MOST_NODES};
+use crate::versions::Call;
 
 /// How often, of a hundred cases, one is spoilt somewhere.
 const SPOILT: usize = 40;
@@ -23,22 +26,30 @@ const CLOCKED: usize = 20;
 /// The most words of workspace a case lends.
 const MOST_WORKSPACE: usize = 7865;
 
-/// A table and its signals, with the rewritten count.
+/// A table and its signals, with what it comes to: its rewritten count, or for
+/// the expander its expanded one.
 struct Made {
     bytes: Vec<u8>,
     signals: Vec<usize>,
     m: usize,
 }
 
-/// How many of a hundred cases are of the plain judge.
+/// How many of a hundred cases are of the plain judge, and how many of a hundred
+/// others of the expander.
 const PLAIN: usize = 14;
+const EXPAND: usize = 14;
 
-/// The case of a seed. Whether it is one of the plain judge is drawn from a
-/// stream of its own, so that the other cases stay what they were without it.
+/// The case of a seed. Whether it is one of the plain judge or of the expander is
+/// drawn from a stream of its own, so that the other cases stay what they were
+/// without them.
 pub fn random_case(seed: u64) -> Case {
     let random = &mut Random::new(seed);
-    if Random::new(!seed).percent(PLAIN) {
+    let added = &mut Random::new(!seed);
+    if added.percent(PLAIN) {
         return plain_case(random);
+    }
+    if added.percent(EXPAND) {
+        return expand::expand_case(random);
     }
     match random.weighted(&[8, 8, 14, 40, 20, 10]) {
         0 => check_case(random),
@@ -63,8 +74,8 @@ fn other_root(root: Sort) -> Sort {
     }
 }
 
-/// A good table with a root of this sort.
-fn made(random: &mut Random, root: Sort) -> Made {
+/// A good table for a call with a root of this sort.
+fn made(random: &mut Random, call: Call, root: Sort) -> Made {
     let size_class = random.weighted(&[62, 24, 8, 6]);
     let size = match size_class {
         0 => random.between(1, 9),
@@ -72,7 +83,7 @@ fn made(random: &mut Random, root: Sort) -> Made {
         2 => random.between(30, 110),
         _ => random.between(1, 60),
     };
-    let mut plan = plan(random, root, size);
+    let mut plan = plan(random, call, root, size);
     if root == Sort::Sequence && random.percent(50) {
         plan.shape = Shape::Broad;
     }
@@ -84,26 +95,26 @@ fn made(random: &mut Random, root: Sort) -> Made {
     made_of(&nodes, plan)
 }
 
-/// A table whose rewriting has just too many nodes, or far too many.
-fn made_too_large(random: &mut Random, root: Sort) -> Made {
-    made_larger(random, root, 60)
+/// A table that comes to just too many nodes, or far too many.
+fn made_too_large(random: &mut Random, call: Call, root: Sort) -> Made {
+    made_larger(random, call, root, 60)
 }
 
 /// The same, of up to about so many sequence and property nodes.
-fn made_larger(random: &mut Random, root: Sort, most: usize) -> Made {
+fn made_larger(random: &mut Random, call: Call, root: Sort, most: usize) -> Made {
     for _ in 0..20 {
         let size = random.between(10, most);
-        let mut plan = plan(random, root, size);
+        let mut plan = plan(random, call, root, size);
         plan.clocks = random.between(10, 60);
         let mut nodes = grown_once(random, &plan, size);
-        if nodes.len() < MOST_NODES && rewritten(&nodes).len() > nodes.len() {
+        if nodes.len() < MOST_NODES && (plan.count)(&nodes) > nodes.len() {
             nodes = filled(random, &plan, nodes, MOST_NODES + 1);
         }
-        if nodes.len() <= MOST_NODES && rewritten(&nodes).len() > MOST_NODES {
+        if nodes.len() <= MOST_NODES && (plan.count)(&nodes) > MOST_NODES {
             return made_of(&nodes, plan);
         }
     }
-    made(random, root)
+    made(random, call, root)
 }
 
 /// The bytes of a table and what goes with it.
@@ -111,12 +122,12 @@ fn made_of(nodes: &[Node], plan: Plan) -> Made {
     Made {
         bytes: table_bytes(plan.version, nodes),
         signals: plan.signals,
-        m: rewritten(nodes).len(),
+        m: (plan.count)(nodes),
     }
 }
 
-/// What a random table should be like.
-fn plan(random: &mut Random, root: Sort, size: usize) -> Plan {
+/// What a random table for a call should be like.
+fn plan(random: &mut Random, call: Call, root: Sort, size: usize) -> Plan {
     let shapes = [
         Shape::Even,
         Shape::Left,
@@ -127,7 +138,7 @@ fn plan(random: &mut Random, root: Sort, size: usize) -> Plan {
         Shape::Broad,
         Shape::Broad,
     ];
-    let version = random.pick(&[1, 2]);
+    let version = version(random, call);
     let edges = random.pick(&[0, 40, 60, 90]);
     Plan {
         version,
@@ -135,6 +146,10 @@ fn plan(random: &mut Random, root: Sort, size: usize) -> Plan {
         size,
         signals: signals(random),
         edges: if version == 1 { 0 } else { edges },
+        derived: match version {
+            3 => random.pick(&[15, 30, 50]),
+            _ => 0,
+        },
         clocks: random.pick(&[0, 0, 5, 12, 25]),
         empties: random.pick(&[0, 3, 8, 15]),
         clocked: random.percent(CLOCKED),
@@ -144,7 +159,20 @@ fn plan(random: &mut Random, root: Sort, size: usize) -> Plan {
         },
         mixed_order: random.percent(40),
         unused_booleans: random.pick(&[0, 0, 0, 1, 3]),
+        count: match call {
+            Call::Expand => count::expanded,
+            _ => count::rewritten,
+        },
     }
+}
+
+/// A version that the call takes: for the expander mostly the one that it is for.
+fn version(random: &mut Random, call: Call) -> u16 {
+    if call == Call::Expand {
+        return random.pick(&[1, 2, 3, 3, 3, 3, 3, 3]);
+    }
+    let taken: Vec<u16> = (1..=call.newest()).collect();
+    random.pick(&taken)
 }
 
 /// A workspace that is large enough: often exactly.
@@ -181,7 +209,7 @@ fn damaged(random: &mut Random, bytes: &mut Vec<u8>) {
 /// Checking a table.
 fn check_case(random: &mut Random) -> Case {
     let root = any_root(random);
-    let mut table = made(random, root).bytes;
+    let mut table = made(random, Call::Check, root).bytes;
     if random.percent(SPOILT + 20) {
         damaged(random, &mut table);
     }
@@ -218,22 +246,12 @@ fn read_case(random: &mut Random) -> Case {
 /// Rewriting a table.
 fn rewrite_case(random: &mut Random) -> Case {
     let root = any_root(random);
-    let fault = if random.percent(SPOILT) {
-        random.between(1, 4)
-    } else {
-        0
-    };
+    let fault = fault(random, &[1, 2, 3, 4]);
     let mut table = match fault {
-        2 => made_too_large(random, root),
-        _ => made(random, root),
+        2 => made_too_large(random, Call::Rewrite, root),
+        _ => made(random, Call::Rewrite, root),
     };
-    let needed = 6 + 4 * table.m;
-    let mut bytes = random.pick(&[needed, needed, needed + 1, needed + 9, 486, 500]);
-    bytes = bytes.max(needed).min(500);
-    if fault == 3 || fault == 4 || fault != 0 && random.percent(10) {
-        let fewer = [needed - 1, needed - 1, 0, random.below(needed)];
-        bytes = random.pick(&fewer).min(500);
-    }
+    let bytes = lent_for(random, table.m, fault);
     if fault == 1 || fault != 0 && random.percent(15) {
         damaged(random, &mut table.bytes);
     }
@@ -241,9 +259,30 @@ fn rewrite_case(random: &mut Random) -> Case {
     Case::Rewrite { table, bytes }
 }
 
+/// No fault, 0, or for a case that is to be spoilt one of these.
+fn fault(random: &mut Random, faults: &[usize]) -> usize {
+    if random.percent(SPOILT) {
+        random.pick(faults)
+    } else {
+        0
+    }
+}
+
+/// How many bytes are lent for a table of so many nodes: enough, or where the
+/// fault is 3 or 4, and at times beside another, too few, often by one.
+fn lent_for(random: &mut Random, count: usize, fault: usize) -> usize {
+    let needed = 6 + 4 * count;
+    let enough = random.pick(&[needed, needed, needed + 1, needed + 9, 486, 500]);
+    if fault == 3 || fault == 4 || fault != 0 && random.percent(10) {
+        let fewer = [needed - 1, needed - 1, 0, random.below(needed)];
+        return random.pick(&fewer).min(500);
+    }
+    enough.max(needed).min(500)
+}
+
 /// A table, samples and a workspace for the judge or for match ends, with one
 /// fault or several when it is to be spoilt.
-fn call(random: &mut Random, root: Sort, spoilt: bool) -> (Vec<u8>, Vec<u64>, usize) {
+fn call(random: &mut Random, call: Call, root: Sort, spoilt: bool) -> (Vec<u8>, Vec<u64>, usize) {
     // A damaged table, 5, has the rarest refusals.
     let faults = [1, 2, 3, 4, 5, 5];
     let fault = if spoilt { random.pick(&faults) } else { 0 };
@@ -254,8 +293,8 @@ fn call(random: &mut Random, root: Sort, spoilt: bool) -> (Vec<u8>, Vec<u64>, us
         root
     };
     let mut table = match fault == 2 || again(random) {
-        true => made_too_large(random, root),
-        false => made(random, root),
+        true => made_too_large(random, call, root),
+        false => made(random, call, root),
     };
     let samples = match fault == 3 || again(random) {
         true => too_many_samples(random, &table.signals),
@@ -274,7 +313,7 @@ fn call(random: &mut Random, root: Sort, spoilt: bool) -> (Vec<u8>, Vec<u64>, us
 /// Judging.
 fn judge_case(random: &mut Random) -> Case {
     let spoilt = random.percent(SPOILT - 5);
-    let (table, samples, words) = call(random, Sort::Property, spoilt);
+    let (table, samples, words) = call(random, Call::Judge, Sort::Property, spoilt);
     Case::Judge {
         table,
         samples,
@@ -287,12 +326,12 @@ fn judge_case(random: &mut Random) -> Case {
 fn plain_case(random: &mut Random) -> Case {
     let spoilt = random.percent(SPOILT - 5);
     if spoilt {
-        let (table, samples, _) = call(random, Sort::Property, true);
+        let (table, samples, _) = call(random, Call::Plain, Sort::Property, true);
         return Case::Plain { table, samples };
     }
     let table = match random.percent(50) {
-        true => made(random, Sort::Property),
-        false => made_larger(random, Sort::Property, 105),
+        true => made(random, Call::Plain, Sort::Property),
+        false => made_larger(random, Call::Plain, Sort::Property, 105),
     };
     Case::Plain {
         samples: good_samples(random, &table.signals),
@@ -303,7 +342,7 @@ fn plain_case(random: &mut Random) -> Case {
 /// Match ends.
 fn ends_case(random: &mut Random) -> Case {
     let spoilt = random.percent(SPOILT - 8);
-    let (table, samples, words) = call(random, Sort::Sequence, spoilt);
+    let (table, samples, words) = call(random, Call::Ends, Sort::Sequence, spoilt);
     let n = samples.len();
     let start = match random.weighted(&[52, 32, 7, 6, 3]) {
         0 => 0,
@@ -332,8 +371,8 @@ fn program_case(random: &mut Random) -> Case {
         Sort::Property
     };
     let mut table = match fault {
-        2 => made_too_large(random, root),
-        _ => made(random, root),
+        2 => made_too_large(random, Call::Program, root),
+        _ => made(random, Call::Program, root),
     };
     let samples = match fault {
         3 => too_many_samples(random, &table.signals),

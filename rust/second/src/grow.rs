@@ -1,8 +1,8 @@
 //! Growing random tables that are accepted.
 
+use crate::derived::{Bounds, Derived};
 use crate::node::{Node, Sort};
 use crate::random::Random;
-use crate::rewriting::rewritten;
 use crate::table::{self, table_bytes, MOST_NODES};
 
 /// How the two operands of a node share what is left to grow.
@@ -31,6 +31,8 @@ pub struct Plan {
     /// How many of a hundred nodes that name a signal ask whether it has risen
     /// or fallen: 0 in version 1.
     pub edges: usize,
+    /// How many of a hundred nodes with operands are derived: 0 below version 3.
+    pub derived: usize,
     /// How often clock nodes and `[*0]` come, against about 100 for all others.
     pub clocks: usize,
     pub empties: usize,
@@ -40,23 +42,25 @@ pub struct Plan {
     /// Mix the order of the nodes as far as the rules let it.
     pub mixed_order: bool,
     pub unused_booleans: usize,
+    /// How many nodes a table comes to: what must not be too many.
+    pub count: fn(&[Node]) -> usize,
 }
 
 /// A table being grown: every node is pushed after its operands.
-struct Grower<'a> {
-    random: &'a mut Random,
+pub struct Grower<'a> {
+    pub random: &'a mut Random,
     plan: &'a Plan,
     nodes: Vec<Node>,
     booleans: Vec<usize>,
 }
 
-/// A table for the plan that is accepted and whose rewriting is, too.
+/// A table for the plan that is accepted and does not come to too many nodes.
 /// Tables that come out too large are grown again with less.
 pub fn grown(random: &mut Random, plan: &Plan) -> Vec<Node> {
     let mut size = plan.size;
     loop {
         let nodes = grown_once(random, plan, size);
-        if nodes.len() <= MOST_NODES && rewritten(&nodes).len() <= MOST_NODES {
+        if nodes.len() <= MOST_NODES && (plan.count)(&nodes) <= MOST_NODES {
             return nodes;
         }
         size = size * 3 / 4;
@@ -86,13 +90,13 @@ pub fn grown_once(random: &mut Random, plan: &Plan, size: usize) -> Vec<Node> {
 
 impl Grower<'_> {
     /// Adds a node and gives its index.
-    fn push(&mut self, node: Node) -> usize {
+    pub fn push(&mut self, node: Node) -> usize {
         self.nodes.push(node);
         self.nodes.len() - 1
     }
 
     /// A boolean, often one that is there already.
-    fn boolean(&mut self) -> usize {
+    pub fn boolean(&mut self) -> usize {
         if !self.booleans.is_empty() && self.random.percent(45) {
             return self.random.pick(&self.booleans);
         }
@@ -121,7 +125,10 @@ impl Grower<'_> {
     }
 
     /// A sequence of about so many nodes.
-    fn sequence(&mut self, size: usize) -> usize {
+    pub fn sequence(&mut self, size: usize) -> usize {
+        if self.next_is_derived() {
+            return self.derived_sequence(size);
+        }
         if size <= 1 {
             let b = self.boolean();
             return self.push(Node::Letter(b));
@@ -138,6 +145,11 @@ impl Grower<'_> {
         self.push(node)
     }
 
+    /// Whether a derived node comes next. Nothing is drawn where none may come.
+    fn next_is_derived(&mut self) -> bool {
+        self.plan.derived > 0 && self.random.percent(self.plan.derived)
+    }
+
     /// Which sequence operator comes next.
     fn sequence_operator(&mut self) -> usize {
         let (empties, clocks) = (self.plan.empties, self.plan.clocks);
@@ -149,7 +161,10 @@ impl Grower<'_> {
     }
 
     /// A property of about so many nodes.
-    fn property(&mut self, size: usize) -> usize {
+    pub fn property(&mut self, size: usize) -> usize {
+        if self.next_is_derived() {
+            return self.derived_property(size);
+        }
         if size <= 2 {
             return self.leaf(1);
         }
@@ -239,7 +254,7 @@ impl Grower<'_> {
     }
 
     /// Shares out so many nodes between two operands, at least one each.
-    fn split(&mut self, total: usize) -> (usize, usize) {
+    pub fn split(&mut self, total: usize) -> (usize, usize) {
         let total = total.max(2);
         let first = match self.plan.shape {
             Shape::Even | Shape::Broad => total / 2,
@@ -284,25 +299,35 @@ fn ordered(random: &mut Random, nodes: &[Node], root: usize, mixed: bool) -> Vec
     order.iter().map(renumbered).collect()
 }
 
-/// Turns `[*0]` into `[*1:$]` under strong, weak and `|->` until no sequence
-/// there is hollow.
+/// Has sequences under strong, weak, `|->` and what expands to them match a
+/// letter more, one after the other, until none of them is hollow.
 fn without_hollow(version: u16, mut nodes: Vec<Node>) -> Vec<Node> {
     if nodes.len() > MOST_NODES {
         return nodes;
     }
     loop {
-        let hollow = match table::checked(&table_bytes(version, &nodes)) {
+        let hollow = match table::checked(&table_bytes(version, &nodes), version) {
             Err(verdict) if verdict.number == 9 => verdict.node,
             _ => return nodes,
         };
-        let below = sequences_below(&nodes, hollow);
-        let empty = below
-            .into_iter()
-            .find(|&r| matches!(nodes[r], Node::Empty(_)));
-        match empty.map(|r| (r, nodes[r])) {
-            Some((r, Node::Empty(operand))) => nodes[r] = Node::Repeat(operand),
-            _ => return nodes,
+        let below = sequences_below(&nodes, hollow).into_iter();
+        let fuller = below.filter_map(|r| Some((r, not_empty(nodes[r])?))).next();
+        match fuller {
+            Some((r, node)) => nodes[r] = node,
+            None => return nodes,
         }
+    }
+}
+
+/// What an operator that only matches no letters becomes, to match some.
+fn not_empty(node: Node) -> Option<Node> {
+    match node {
+        Node::Empty(r) => Some(Node::Repeat(r)),
+        Node::Derived(Derived::Times(r, Bounds { n: 0, .. })) => {
+            Some(Node::Derived(Derived::Times(r, Bounds { m: 0, n: 1 })))
+        }
+        Node::Derived(Derived::Goto(b, 0)) => Some(Node::Derived(Derived::Goto(b, 1))),
+        _ => None,
     }
 }
 
@@ -324,9 +349,9 @@ fn sequences_below(nodes: &[Node], top: usize) -> Vec<usize> {
     found
 }
 
-/// Adds nodes, each counting one in the rewriting, up to a rewritten count.
+/// Adds nodes, each counting one, up to what the table is to come to.
 pub fn filled(random: &mut Random, plan: &Plan, mut nodes: Vec<Node>, target: usize) -> Vec<Node> {
-    let missing = target.saturating_sub(rewritten(&nodes).len());
+    let missing = target.saturating_sub((plan.count)(&nodes));
     for _ in 0..missing.min(MOST_NODES.saturating_sub(nodes.len())) {
         if random.percent(50) {
             let signal = random.below(64);

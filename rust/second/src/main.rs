@@ -8,7 +8,8 @@ const HELP: &str = "\
 second: a second opinion on clocked assertions
 
 second stored SEED COUNT CASES_FILE ANSWERS_FILE
-    writes COUNT random cases drawn from SEED, and their answers
+    writes the cases that are listed and COUNT random ones drawn from SEED,
+    and their answers
 second answer < CASES
     reads cases, one a line, and prints their answers
 second judge TABLE RECORD

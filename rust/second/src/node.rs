@@ -1,5 +1,7 @@
 //! The nodes of a table: operators, sorts and operands.
 
+use crate::derived::Derived;
+
 /// The three sorts of node.
 #[derive(Clone, Copy, Debug, PartialEq, Eq)]
 pub enum Sort {
@@ -8,13 +10,15 @@ pub enum Sort {
     Property,
 }
 
-/// What an operand byte of an operator holds.
+/// What x, y or the fourth byte of an operator holds.
 #[derive(Clone, Copy, Debug, PartialEq, Eq)]
 pub enum Place {
     /// The byte must be 0.
     Unused,
     /// A plain number, at most this large: no operand.
     Number(usize),
+    /// m + 16n, with m at most n.
+    Bounds,
     /// The index of a node of this sort.
     Operand(Sort),
 }
@@ -56,39 +60,61 @@ pub enum Node {
     Until(usize, usize),
     /// `@(c) P`
     ClockProperty(usize, usize),
+    /// A node that version 3 expands.
+    Derived(Derived),
 }
 
 use Place::{Number, Operand, Unused};
 use Sort::{Boolean, Property, Sequence};
 
 /// Every operator number there is.
-pub const OPERATORS: [u8; 23] = [
-    0, 1, 2, 3, 4, 5, 6, 16, 17, 18, 19, 20, 21, 22, 32, 33, 34, 35, 36, 37, 38, 39, 40,
+pub const OPERATORS: [u8; 34] = [
+    0, 1, 2, 3, 4, 5, 6, 16, 17, 18, 19, 20, 21, 22, 23, 24, 25, 26, 32, 33, 34, 35, 36, 37, 38,
+    39, 40, 41, 42, 43, 44, 45, 46, 47,
 ];
 
-/// Whether tables of a version may have an operator: 5 and 6 came with version 2.
+/// Whether an operator is one of those that version 3 expands.
+pub fn is_derived(operator: u8) -> bool {
+    matches!(operator, 23..=26 | 41..=47)
+}
+
+/// Whether tables of a version may have an operator: 5 and 6 came with version
+/// 2, the derived ones are version 3's alone.
 pub fn known_in(version: u16, operator: u8) -> bool {
     match operator {
         5 | 6 => version >= 2,
+        _ if is_derived(operator) => version == 3,
         _ => true,
     }
 }
 
-/// What x and y of an operator hold, or none for an unknown operator.
-pub fn places(operator: u8) -> Option<[Place; 2]> {
+/// What x, y and the fourth byte of an operator hold, or none for an unknown
+/// operator.
+pub fn places(operator: u8) -> Option<[Place; 3]> {
+    let [x, y] = operand_places(operator)?;
+    let fourth = match operator {
+        23 | 24 => Place::Bounds,
+        25 | 26 => Number(15),
+        _ => Unused,
+    };
+    Some([x, y, fourth])
+}
+
+/// What x and y of an operator hold.
+fn operand_places(operator: u8) -> Option<[Place; 2]> {
     let places = match operator {
         0 => [Number(1), Unused],
         1 | 5 | 6 => [Number(63), Unused],
         2 => [Operand(Boolean), Unused],
         3 | 4 => [Operand(Boolean), Operand(Boolean)],
-        16 => [Operand(Boolean), Unused],
-        17..=19 => [Operand(Sequence), Operand(Sequence)],
-        20 | 21 => [Operand(Sequence), Unused],
+        16 | 25 | 26 => [Operand(Boolean), Unused],
+        17..=19 | 24 => [Operand(Sequence), Operand(Sequence)],
+        20 | 21 | 23 => [Operand(Sequence), Unused],
         22 => [Operand(Boolean), Operand(Sequence)],
         32 | 33 => [Operand(Sequence), Unused],
-        34 | 38 => [Operand(Property), Unused],
-        35 | 36 | 39 => [Operand(Property), Operand(Property)],
-        37 => [Operand(Sequence), Operand(Property)],
+        34 | 38 | 44 | 45 | 47 => [Operand(Property), Unused],
+        35 | 36 | 39 | 46 => [Operand(Property), Operand(Property)],
+        37 | 41..=43 => [Operand(Sequence), Operand(Property)],
         40 => [Operand(Boolean), Operand(Property)],
         _ => return None,
     };
@@ -96,8 +122,10 @@ pub fn places(operator: u8) -> Option<[Place; 2]> {
 }
 
 impl Node {
-    /// The node with this operator, x and y; none for an unknown operator.
-    pub fn new(operator: u8, x: usize, y: usize) -> Option<Node> {
+    /// The node with this operator, x, y and fourth byte; none for an unknown
+    /// operator.
+    pub fn new(operator: u8, held: [usize; 3]) -> Option<Node> {
+        let [x, y, _] = held;
         let node = match operator {
             0 => Node::Constant(x),
             1 => Node::Signal(x),
@@ -122,14 +150,14 @@ impl Node {
             38 => Node::Nexttime(x),
             39 => Node::Until(x, y),
             40 => Node::ClockProperty(x, y),
-            _ => return None,
+            _ => return Derived::new(operator, held).map(Node::Derived),
         };
         Some(node)
     }
 
-    /// Operator, x and y of the node.
-    pub fn parts(self) -> (u8, usize, usize) {
-        match self {
+    /// Operator, and then x, y and fourth byte of the node.
+    pub fn parts(self) -> (u8, [usize; 3]) {
+        let (operator, x, y) = match self {
             Node::Constant(x) => (0, x, 0),
             Node::Signal(x) => (1, x, 0),
             Node::Not(x) => (2, x, 0),
@@ -153,37 +181,41 @@ impl Node {
             Node::Nexttime(x) => (38, x, 0),
             Node::Until(x, y) => (39, x, y),
             Node::ClockProperty(x, y) => (40, x, y),
-        }
+            Node::Derived(derived) => return derived.parts(),
+        };
+        (operator, [x, y, 0])
     }
 
     /// The sort of the node, fixed by its operator.
     pub fn sort(self) -> Sort {
         match self.parts().0 {
             0..=6 => Boolean,
-            16..=22 => Sequence,
+            16..=26 => Sequence,
             _ => Property,
         }
     }
 
     /// The operands of the node in order; numbers and unused bytes are none.
     pub fn operands(self) -> impl Iterator<Item = usize> {
-        let (operator, x, y) = self.parts();
-        let places = places(operator).unwrap_or([Unused, Unused]);
-        let held = [(places[0], x), (places[1], y)];
-        held.into_iter()
+        let (operator, held) = self.parts();
+        let places = places(operator).unwrap_or([Unused; 3]);
+        places
+            .into_iter()
+            .zip(held)
             .filter(|(place, _)| matches!(place, Operand(_)))
             .map(|(_, operand)| operand)
     }
 
     /// The same node with each operand given its new number.
     pub fn renumbered(self, new_number: impl Fn(usize) -> usize) -> Node {
-        let (operator, x, y) = self.parts();
-        let places = places(operator).unwrap_or([Unused, Unused]);
-        let renumber = |place, held| match place {
-            Operand(_) => new_number(held),
-            _ => held,
-        };
-        Node::new(operator, renumber(places[0], x), renumber(places[1], y)).unwrap_or(self)
+        let (operator, mut held) = self.parts();
+        let places = places(operator).unwrap_or([Unused; 3]);
+        for (place, held) in places.into_iter().zip(&mut held) {
+            if matches!(place, Operand(_)) {
+                *held = new_number(*held);
+            }
+        }
+        Node::new(operator, held).unwrap_or(self)
     }
 }
 

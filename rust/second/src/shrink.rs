@@ -1,9 +1,9 @@
 //! Making a case smaller while it still differs.
 
 use crate::case::Case;
+use crate::count;
 use crate::node::{Node, Sort};
 use crate::record::record_bytes;
-use crate::rewriting::rewritten;
 use crate::rows::WORDS_PER_NODE;
 use crate::table::{readable, table_bytes, Table};
 
@@ -29,7 +29,9 @@ fn weight(case: &Case) -> [u128; 6] {
     let (bytes, samples, start, lent) = match case {
         Case::Check { table } => (table, nothing, 0, 0),
         Case::Read { record, words } => (record, nothing, 0, *words),
-        Case::Rewrite { table, bytes } => (table, nothing, 0, *bytes),
+        Case::Expand { table, bytes } | Case::Rewrite { table, bytes } => {
+            (table, nothing, 0, *bytes)
+        }
         Case::Judge {
             table,
             samples,
@@ -64,6 +66,7 @@ fn candidates(case: &Case) -> Vec<Case> {
             .map(|table| Case::Check { table })
             .collect(),
         Case::Read { record, words } => read_candidates(record, *words),
+        Case::Expand { table, bytes } => expand_candidates(table, *bytes),
         Case::Rewrite { table, bytes } => rewrite_candidates(table, *bytes),
         Case::Judge {
             table,
@@ -101,14 +104,27 @@ fn read_candidates(record: &[u8], words: usize) -> Vec<Case> {
 
 /// Smaller tables and fewer bytes.
 fn rewrite_candidates(table: &[u8], bytes: usize) -> Vec<Case> {
-    let tables = tables(table).into_iter();
-    let mut cases: Vec<Case> = tables.map(|table| Case::Rewrite { table, bytes }).collect();
-    let needed = 6 + 4 * rewritten_count(table);
-    cases.extend(sizes(bytes, needed).map(|bytes| Case::Rewrite {
-        table: table.to_vec(),
-        bytes,
-    }));
-    cases
+    let pairs = tables_and_bytes(table, bytes, rewritten_count(table));
+    let case = |(table, bytes)| Case::Rewrite { table, bytes };
+    pairs.into_iter().map(case).collect()
+}
+
+/// The same for the expander.
+fn expand_candidates(table: &[u8], bytes: usize) -> Vec<Case> {
+    let count = readable(table).map_or(0, |table| count::expanded(&table.nodes));
+    let pairs = tables_and_bytes(table, bytes, count);
+    let case = |(table, bytes)| Case::Expand { table, bytes };
+    pairs.into_iter().map(case).collect()
+}
+
+/// Smaller tables with the bytes, and the table with fewer: around what so many
+/// nodes need.
+fn tables_and_bytes(table: &[u8], bytes: usize, count: usize) -> Vec<(Vec<u8>, usize)> {
+    let smaller = tables(table).into_iter();
+    let mut pairs: Vec<_> = smaller.map(|table| (table, bytes)).collect();
+    let fewer = sizes(bytes, 6 + 4 * count);
+    pairs.extend(fewer.map(|bytes| (table.to_vec(), bytes)));
+    pairs
 }
 
 /// Smaller tables, smaller records and fewer words.
@@ -166,7 +182,7 @@ fn ends_candidates(table: &[u8], samples: &[u64], start: usize, words: usize) ->
 
 /// The rewritten count of a table, 0 for one that cannot be read.
 fn rewritten_count(table: &[u8]) -> usize {
-    readable(table).map_or(0, |table| rewritten(&table.nodes).len())
+    readable(table).map_or(0, |table| count::rewritten(&table.nodes))
 }
 
 /// Smaller numbers: none, around what is needed, half, and one less.
@@ -242,13 +258,13 @@ fn without_stretches<T: Clone>(items: &[T]) -> Vec<Vec<T>> {
     lists
 }
 
-/// Smaller tables: simpler nodes, fewer nodes, version 1, or plain bytes.
+/// Smaller tables: simpler nodes, fewer nodes, an older version, or plain bytes.
 fn tables(table: &[u8]) -> Vec<Vec<u8>> {
     let mut tables = Vec::new();
     if let Some(Table { version, nodes }) = readable(table) {
         let smaller = node_lists(&nodes);
         tables.extend(smaller.iter().map(|nodes| table_bytes(version, nodes)));
-        tables.push(table_bytes(1, &nodes));
+        tables.extend((1..version).map(|older| table_bytes(older, &nodes)));
     }
     tables.extend(byte_strings(table));
     tables
@@ -258,6 +274,7 @@ fn tables(table: &[u8]) -> Vec<Vec<u8>> {
 fn node_lists(nodes: &[Node]) -> Vec<Vec<Node>> {
     let mut smaller = Vec::new();
     for node in 0..nodes.len() {
+        smaller.push(reached(&nodes[..=node]));
         smaller.extend(without_node(nodes, node));
         smaller.extend(with_node_below(nodes, node));
     }
@@ -346,7 +363,7 @@ fn simpler_booleans(boolean: Node) -> Vec<Node> {
 }
 
 /// The nodes that the root needs, renumbered.
-fn reached(nodes: &[Node]) -> Vec<Node> {
+pub fn reached(nodes: &[Node]) -> Vec<Node> {
     with_operands(nodes, vec![false; nodes.len()])
 }
 

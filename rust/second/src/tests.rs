@@ -1,10 +1,13 @@
 //! The examples of document 01, the small cases of the open points, the plain
-//! judge, rising and falling signals, what is tested, refusals, and checks over
-//! many random cases.
+//! judge, rising and falling signals, what is tested, expanding, refusals, and
+//! checks over many random cases.
 
+mod blocks;
 mod counts;
 mod coverage;
 mod examples;
+mod expanding;
+mod expansions;
 mod plain;
 mod random_cases;
 mod refusals;
@@ -13,7 +16,17 @@ mod tested;
 mod tools;
 mod versions;
 
+use crate::answers::in_base_operators;
+use crate::node::Node;
+use crate::table::checked;
+use crate::versions::NEWEST;
 use crate::{judge, level, plain_judge, Verdict};
+
+/// The nodes of a table of any version that is accepted, expanded.
+fn base_nodes(table: &[u8]) -> Option<Vec<Node>> {
+    let table = checked(table, NEWEST).and_then(in_base_operators).ok()?;
+    Some(table.nodes)
+}
 
 /// A table of version 1 from operators with x and y.
 fn table(nodes: &[(u8, u8, u8)]) -> Vec<u8> {
@@ -23,6 +36,13 @@ fn table(nodes: &[(u8, u8, u8)]) -> Vec<u8> {
 /// A table of version 2, which may have operators 5 and 6.
 fn table_2(nodes: &[(u8, u8, u8)]) -> Vec<u8> {
     table_of(2, nodes)
+}
+
+/// A table of version 3 from whole nodes, each with its fourth byte.
+fn table_3(nodes: &[[u8; 4]]) -> Vec<u8> {
+    let mut bytes = vec![0x53, 0x56, 0x54, 3, 0, nodes.len() as u8];
+    bytes.extend(nodes.as_flattened());
+    bytes
 }
 
 /// A table of a version below 256.

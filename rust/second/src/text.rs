@@ -12,7 +12,7 @@ const MOST_CHARACTERS: usize = 8192;
 
 /// The most that a case may lend.
 const MOST_READ_WORDS: usize = 64;
-const MOST_REWRITE_BYTES: usize = 500;
+const MOST_TABLE_BYTES: usize = 500;
 const MOST_WORKSPACE: usize = 7865;
 
 /// The line of a case, without the newline.
@@ -20,6 +20,7 @@ pub fn case_text(label: u64, case: &Case) -> String {
     match case {
         Case::Check { table } => format!("check {label}:{}", byte_runs(table)),
         Case::Read { record, words } => format!("read {words} {label}:{}", byte_runs(record)),
+        Case::Expand { table, bytes } => format!("expand {bytes} {label}:{}", byte_runs(table)),
         Case::Rewrite { table, bytes } => format!("rewrite {bytes} {label}:{}", byte_runs(table)),
         Case::Judge {
             table,
@@ -79,9 +80,11 @@ pub fn answer_text(label: u64, answer: &Answer) -> String {
             let words = after_spaces(words);
             said(reading.verdict, ", count 0", &accepted) + ", words" + &words
         }
+        Answer::Expand(expansion, bytes) => {
+            written_text(expansion.verdict, expansion.count) + &digits(bytes)
+        }
         Answer::Rewrite(rewriting, bytes) => {
-            let accepted = format!("{} nodes", rewriting.count);
-            said(rewriting.verdict, ", count 0", &accepted) + ", bytes " + &digits(bytes)
+            written_text(rewriting.verdict, rewriting.count) + &digits(bytes)
         }
         Answer::Judge(judgement, words) => judgement_text(judgement) + &digest_text(words),
         Answer::Plain(judgement) => judgement_text(judgement),
@@ -93,6 +96,11 @@ pub fn answer_text(label: u64, answer: &Answer) -> String {
         Answer::Program(line) => line.clone(),
     };
     format!("{label}: {said}")
+}
+
+/// How many nodes were written, or the refusal; the bytes follow.
+fn written_text(verdict: Verdict, count: usize) -> String {
+    said(verdict, ", count 0", &format!("{count} nodes")) + ", bytes "
 }
 
 /// What a judge answered, refused or not.
@@ -164,8 +172,12 @@ pub fn parse_case(line: &str) -> Result<(u64, Case), String> {
             words: number_up_to(words, MOST_READ_WORDS)?,
             record: bytes(body)?,
         },
+        ["expand", lent, _] => Case::Expand {
+            bytes: number_up_to(lent, MOST_TABLE_BYTES)?,
+            table: bytes(body)?,
+        },
         ["rewrite", lent, _] => Case::Rewrite {
-            bytes: number_up_to(lent, MOST_REWRITE_BYTES)?,
+            bytes: number_up_to(lent, MOST_TABLE_BYTES)?,
             table: bytes(body)?,
         },
         ["judge", words, _] => judge_case(words, body)?,

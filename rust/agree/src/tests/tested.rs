@@ -16,21 +16,28 @@ fn with_flag(case: &Case, read: impl Fn(&[u8], &[u64], &[u64]) -> bool) -> Answe
     answer
 }
 
-/// The library, but the judge's flag is read with a slip.
+/// The library, but the judge's flag is read off the expansion with a slip.
 fn slipped(case: &Case, slip: Slip) -> Answer {
     with_flag(case, |table, samples, rows| {
-        Reading::tested(table, samples.len(), rows, slip)
+        let expansion = written(|out| second::expand(table, out).count);
+        Reading::tested(&expansion, samples.len(), rows, slip)
     })
 }
 
 /// The library, but the judge's flag is that of the rewritten table.
 fn rewritten(case: &Case) -> Answer {
     with_flag(case, |table, samples, rows| {
-        let mut rewritten = vec![0; 486];
-        let count = second::rewrite(table, &mut rewritten).count;
-        rewritten.truncate(6 + 4 * count);
+        let rewritten = written(|out| second::rewrite(table, out).count);
         Reading::tested(&rewritten, samples.len(), rows, Slip::Nowhere)
     })
+}
+
+/// The table that a call writes, which answers its count.
+fn written(write: impl Fn(&mut [u8]) -> usize) -> Vec<u8> {
+    let mut out = vec![0; 486];
+    let count = write(&mut out);
+    out.truncate(6 + 4 * count);
+    out
 }
 
 /// The sides that slip, with a name of each.

@@ -1,8 +1,11 @@
 //! Counting what occurs in some cases and in their answers, by name.
 
+use super::base_nodes;
+use crate::count;
 use crate::node::{clocks, Node, OPERATORS};
 use crate::rewriting::rewritten;
-use crate::table::{checked, Table, MOST_NODES};
+use crate::table::{checked, readable, Table, MOST_NODES};
+use crate::versions::NEWEST;
 use crate::{answer, Answer, Case, Judgement, Verdict};
 use std::collections::BTreeMap;
 
@@ -44,6 +47,7 @@ impl Counts {
         self.note(format!("case {}", kind(case)));
         match case {
             Case::Check { table } | Case::Rewrite { table, .. } => self.note_table(table),
+            Case::Expand { table, .. } => self.note_table(table),
             Case::Judge { table, samples, .. }
             | Case::Plain { table, samples }
             | Case::Ends { table, samples, .. } => {
@@ -57,7 +61,7 @@ impl Counts {
 
     /// Counts the version, the operators and the size of an accepted table.
     fn note_table(&mut self, table: &[u8]) {
-        let Ok(Table { version, nodes }) = checked(table) else {
+        let Ok(Table { version, nodes }) = checked(table, NEWEST) else {
             return;
         };
         self.note(format!("version {version}"));
@@ -66,13 +70,15 @@ impl Counts {
                 self.note(format!("operator {operator}"));
             }
         }
-        self.note(format!("m {}", rewritten(&nodes).len()));
+        if let Some(nodes) = base_nodes(table) {
+            self.note(format!("m {}", rewritten(&nodes).len()));
+        }
     }
 
     /// Counts how long a record is for an accepted table, and what it does with
     /// the signals that the table asks about.
     fn note_samples(&mut self, table: &[u8], samples: &[u64]) {
-        let Ok(Table { nodes, .. }) = checked(table) else {
+        let Some(nodes) = base_nodes(table) else {
             return;
         };
         self.note(format!("n {}", samples.len()));
@@ -147,13 +153,16 @@ impl Counts {
         }
         if let Some(verdict) = answer.verdict() {
             self.note_fault(case, verdict);
+            if let Case::Expand { table, .. } = case {
+                self.note_expansion(table, verdict);
+            }
         }
     }
 
     /// Counts which of `|->`, nexttime and until stand below the root, with a
     /// clock or with none, where the table is tested or is not.
     fn note_inner(&mut self, table: &[u8], tested: bool) {
-        let Ok(Table { nodes, .. }) = checked(table) else {
+        let Some(nodes) = base_nodes(table) else {
             return;
         };
         let clocks = clocks(&nodes);
@@ -172,7 +181,7 @@ impl Counts {
     /// Counts what the plain judge said of a table whose rewriting has more than
     /// 120 nodes.
     fn note_past(&mut self, table: &[u8], judged: &Judgement) {
-        let count = checked(table).map_or(0, |table| rewritten(&table.nodes).len());
+        let count = base_nodes(table).map_or(0, |nodes| rewritten(&nodes).len());
         if count > MOST_NODES {
             self.note(format!("past level {}", judged.level));
             self.note(format!("past tested {}", judged.tested));
@@ -182,10 +191,26 @@ impl Counts {
         }
     }
 
+    /// Counts what the expander met: versions that it copies, hollow nodes by
+    /// their operator, and how many nodes an expansion has.
+    fn note_expansion(&mut self, table: &[u8], verdict: Verdict) {
+        let version = table.get(3).copied().unwrap_or(0);
+        match verdict.number {
+            0 if version < 3 => self.note(format!("expander copies version {version}")),
+            9 => self.note(format!("hollow {}", table[6 + 4 * verdict.node])),
+            0 | 13 => {
+                let nodes = readable(table).map_or(Vec::new(), |table| table.nodes);
+                self.note(format!("expanded {}", count::expanded(&nodes)));
+            }
+            _ => {}
+        }
+    }
+
     /// Counts which version or which node was refused with 3 or 6.
     fn note_fault(&mut self, case: &Case, verdict: Verdict) {
         let (bytes, name) = match case {
             Case::Check { table } | Case::Rewrite { table, .. } => (table, "table"),
+            Case::Expand { table, .. } => (table, "expander's table"),
             Case::Judge { table, .. } | Case::Plain { table, .. } => (table, "table"),
             Case::Ends { table, .. } => (table, "table"),
             Case::Read { record, .. } => (record, "record"),
@@ -198,6 +223,11 @@ impl Counts {
         if verdict.number == 6 {
             let node = &bytes[6 + 4 * verdict.node..][..4];
             let fault = match *node {
+                [23..=26 | 41..=47, ..] if bytes[3] < 3 => "derived in an older version",
+                [operator @ 23..=26, .., 1..=255] => {
+                    self.note(format!("operator {operator} with a wrong fourth byte"));
+                    return;
+                }
                 [5 | 6, ..] if bytes[3] == 1 => "in version 1",
                 [7..=15, ..] => "between 7 and 15",
                 [5 | 6, 64..=255, 0, 0] => "of no signal",
@@ -215,6 +245,7 @@ fn kind(case: &Case) -> &'static str {
     match case {
         Case::Check { .. } => "check",
         Case::Read { .. } => "read",
+        Case::Expand { .. } => "expand",
         Case::Rewrite { .. } => "rewrite",
         Case::Judge { .. } => "judge",
         Case::Plain { .. } => "plain",

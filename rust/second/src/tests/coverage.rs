@@ -1,18 +1,19 @@
 //! Everything occurs often enough, among random cases and among those stored.
 
 use super::counts::Counts;
-use crate::node::OPERATORS;
+use crate::node::{is_derived, OPERATORS};
 use crate::{answer, answer_text, parse_case, random_case};
 
-const SEEDS: u64 = 14_000;
+const SEEDS: u64 = 16_000;
 
 /// The refusals of each entry point, and its acceptance.
-const NUMBERS: [(&str, &[u8]); 7] = [
+const NUMBERS: [(&str, &[u8]); 8] = [
     ("check", &[0, 1, 2, 3, 4, 5, 6, 7, 8, 9]),
     ("read", &[0, 1, 2, 3, 5, 10, 15]),
+    ("expand", &[0, 1, 2, 3, 4, 5, 6, 7, 8, 9, 13, 15]),
     ("rewrite", &[0, 1, 2, 3, 4, 5, 6, 7, 8, 9, 13, 15]),
     ("judge", &[0, 1, 2, 3, 4, 5, 6, 7, 8, 9, 10, 11, 12, 13]),
-    ("plain", &[0, 1, 2, 3, 4, 5, 6, 7, 8, 9, 10, 12]),
+    ("plain", &[0, 1, 2, 3, 4, 5, 6, 7, 8, 9, 10, 12, 13]),
     ("ends", &[0, 1, 2, 3, 4, 5, 6, 7, 8, 9, 10, 11, 12, 13, 14]),
     ("program", &[0, 1, 2, 3, 4, 5, 6, 7, 8, 9, 10, 12, 13]),
 ];
@@ -20,7 +21,7 @@ const NUMBERS: [(&str, &[u8]); 7] = [
 /// The refusals of versions and nodes that request 2 is about.
 const FAULTS: [&str; 11] = [
     "table of version 0",
-    "table of version 3",
+    "table of version 4",
     "table of version 257",
     "table of version 258",
     "table of version 512",
@@ -54,6 +55,29 @@ const USES: [&str; 18] = [
     "fallen falls",
 ];
 
+/// What expanding is about: the versions that it copies, refusals of versions and
+/// of the fourth byte, 9 by each operator that can give it, and the limit of 13.
+const EXPANDED: [&str; 18] = [
+    "expander copies version 1",
+    "expander copies version 2",
+    "expander's table of version 0",
+    "expander's table of version 4",
+    "expander's table of version 259",
+    "expander's table of version 768",
+    "operator derived in an older version",
+    "operator 23 with a wrong fourth byte",
+    "operator 24 with a wrong fourth byte",
+    "operator 25 with a wrong fourth byte",
+    "operator 26 with a wrong fourth byte",
+    "hollow 32",
+    "hollow 33",
+    "hollow 37",
+    "hollow 41",
+    "hollow 42",
+    "hollow 43",
+    "expanded 120",
+];
+
 const FLAGS: [&str; 4] = ["tested true", "tested false", "top true", "top false"];
 
 /// What the plain judge says of tables whose rewriting has too many nodes.
@@ -81,11 +105,21 @@ fn inner() -> Vec<String> {
     named.flat_map(|name| each(&name, [true, false])).collect()
 }
 
-/// Asserts that accepted tables are of version 2 about as often as of version 1.
+/// Asserts that accepted tables have each operator so often, and each derived one.
+fn operators_occur(counts: &Counts, base: usize, derived: usize) {
+    for operator in OPERATORS {
+        let least = if is_derived(operator) { derived } else { base };
+        counts.at_least(least, each("operator", [operator]));
+    }
+}
+
+/// Asserts that accepted tables are of each version about as often; for the
+/// expander more are of version 3.
 fn versions_are_even(counts: &Counts) {
-    let [one, two] = ["version 1", "version 2"].map(|name| counts.of(name));
+    let [one, two, three] = [1, 2, 3].map(|version| counts.of(&format!("version {version}")));
     let share = two * 100 / (one + two);
     assert!((47..=53).contains(&share), "{share} % of version 2");
+    assert!(three > two && three < 2 * two, "{three} of version 3");
 }
 
 #[test]
@@ -97,7 +131,9 @@ fn everything_occurs() {
         counts.at_least(1, each(kind, numbers));
     }
     counts.at_least(40, each("number", 0..=15));
-    counts.at_least(300, each("operator", OPERATORS));
+    operators_occur(&counts, 300, 50);
+    counts.at_least(1, EXPANDED);
+    counts.at_least(5, ["expanded 121"]);
     counts.at_least(250, each("level", 0..=3));
     counts.at_least(60, each("mask", 0..=3));
     counts.at_least(2, each("m", 100..=120));
@@ -136,7 +172,9 @@ fn everything_is_stored() {
         counts.at_least(1, each(kind, numbers));
     }
     counts.at_least(20, each("number", 0..=15));
-    counts.at_least(100, each("operator", OPERATORS));
+    operators_occur(&counts, 100, 50);
+    counts.at_least(1, EXPANDED);
+    counts.at_least(11, ["expanded 120", "expanded 121"]);
     counts.at_least(50, each("level", 0..=3));
     counts.at_least(50, FLAGS);
     counts.at_least(10, inner());

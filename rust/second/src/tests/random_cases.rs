@@ -1,15 +1,17 @@
 //! Checks over random cases: the definitions twice, and rows against answers.
 
+use super::base_nodes;
+use crate::count;
 use crate::grow::{grown, Plan, Shape};
 use crate::literal::{letters, Literal, Word};
 use crate::meaning::Meaning;
 use crate::node::{clocks, Node, Sort};
 use crate::random::Random;
 use crate::rewriting::rewritten;
-use crate::table::{checked, table_bytes, Table, MOST_NODES};
+use crate::table::{table_bytes, MOST_NODES};
 use crate::tested::Testing;
 use crate::words::Tail;
-use crate::{answer, check, judge, level, line, match_ends, plain_judge, random_case};
+use crate::{answer, check, expand, judge, level, line, match_ends, plain_judge, random_case};
 use crate::{read, rewrite};
 use crate::{Answer, Case, Verdict};
 
@@ -21,7 +23,7 @@ fn accepted(seed: u64) -> Option<(Vec<Node>, Vec<u64>)> {
     let (Case::Judge { table, samples, .. } | Case::Ends { table, samples, .. }) = &case else {
         return None;
     };
-    let nodes = checked(table).ok()?.nodes;
+    let nodes = base_nodes(table)?;
     (samples.len() <= 63).then(|| (nodes, samples.clone()))
 }
 
@@ -34,12 +36,14 @@ fn small(random: &mut Random) -> (Vec<Node>, Vec<u64>) {
         size: random.between(2, 8),
         signals: vec![0, 1],
         edges: random.pick(&[0, 50, 90]),
+        derived: 0,
         clocks: random.pick(&[5, 30, 60]),
         empties: 8,
         clocked: false,
         shape: random.pick(&[Shape::Mixed, Shape::Chain]),
         mixed_order: false,
         unused_booleans: 0,
+        count: count::rewritten,
     };
     let nodes = grown(random, &plan);
     let samples = (0..random.below(4)).map(|_| random.next() & 3).collect();
@@ -167,7 +171,7 @@ fn level_or_refusal_11(table: &[u8], samples: &[u64], given: Verdict) -> crate::
 
 /// The rewritten count of an accepted table.
 fn rewritten_count(table: &[u8]) -> usize {
-    checked(table).map_or(0, |table| rewritten(&table.nodes).len())
+    base_nodes(table).map_or(0, |nodes| rewritten(&nodes).len())
 }
 
 /// The rewriting of a table says what the table says where it has too many nodes
@@ -180,7 +184,7 @@ fn rewriting_past_120_nodes_keeps_the_meaning() {
             continue;
         };
         let judged = plain_judge(&table, &samples);
-        let Ok(Table { nodes, .. }) = checked(&table) else {
+        let Some(nodes) = base_nodes(&table) else {
             continue;
         };
         let new = rewritten(&nodes);
@@ -248,6 +252,7 @@ fn no_bytes_cause_a_panic() {
     for _ in 0..20_000 {
         let mut bytes = match random_case(random.next()) {
             Case::Check { table } | Case::Rewrite { table, .. } => table,
+            Case::Expand { table, .. } => table,
             Case::Judge { table, .. } | Case::Plain { table, .. } => table,
             Case::Ends { table, .. } => table,
             Case::Read { record, .. } => record,
@@ -263,6 +268,7 @@ fn no_bytes_cause_a_panic() {
         line(&bytes);
         read(&bytes, &mut words);
         rewrite(&bytes, &mut [0; 90]);
+        expand(&bytes, &mut [0; 90]);
         judge(&bytes, &samples, &mut words);
         plain_judge(&bytes, &samples);
         match_ends(&bytes, &samples, start, &mut words);

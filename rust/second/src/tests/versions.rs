@@ -1,4 +1,4 @@
-//! Versions 1 and 2: refusals 3 and 6, rewriting, and answers that stay.
+//! Versions: refusals 3 and 6, rewriting, and answers that stay.
 
 use super::{clocked_strong, clocked_strong_rewritten, table, table_2, table_of};
 use crate::record::record_bytes;
@@ -21,16 +21,17 @@ fn with_version(bytes: &[u8], version: u16) -> Vec<u8> {
 }
 
 #[test]
-fn tables_have_version_1_or_2() {
+fn tables_have_version_1_to_3() {
     let strong_a = table(&[(1, 0, 0), (16, 0, 0), (32, 1, 0)]);
     refused(&with_version(&strong_a, 1), 0, 0);
     refused(&with_version(&strong_a, 2), 0, 0);
-    for version in [0, 3, 4, 255, 256, 257, 258, 512, 513, 65535] {
+    refused(&with_version(&strong_a, 3), 0, 0);
+    for version in [0, 4, 255, 256, 257, 258, 259, 512, 513, 768, 65535] {
         refused(&with_version(&strong_a, version), 3, 0);
     }
     // The mark is asked before the version, the count after it.
-    refused(b"SVX\x03\x00\x00", 2, 0);
-    refused(b"SVT\x03\x00\x00", 3, 0);
+    refused(b"SVX\x04\x00\x00", 2, 0);
+    refused(b"SVT\x04\x00\x00", 3, 0);
     refused(b"SVT\x02\x01\x79", 3, 0);
     refused(b"SVT\x02\x00\x00", 4, 0);
     refused(b"SVT\x02\x00\x79", 4, 0);
@@ -99,7 +100,7 @@ fn nodes_of_version_2() {
 #[test]
 fn every_entry_point_asks_for_the_version() {
     let letter_rose = &STRONG_ROSE[..2];
-    for (version, number, node) in [(3, 3, 0), (1, 6, 0), (2, 0, 0)] {
+    for (version, number, node) in [(4, 3, 0), (1, 6, 0), (2, 0, 0), (3, 0, 0)] {
         let expected = Verdict { number, node };
         let (property, sequence) = (
             table_of(version, &STRONG_ROSE),
@@ -142,6 +143,7 @@ fn rewriting_copies_the_version() {
 fn table_of_case(case: &mut Case) -> Option<&mut Vec<u8>> {
     match case {
         Case::Check { table } | Case::Rewrite { table, .. } => Some(table),
+        Case::Expand { table, .. } => Some(table),
         Case::Judge { table, .. } | Case::Plain { table, .. } | Case::Ends { table, .. } => {
             Some(table)
         }
@@ -166,8 +168,9 @@ fn answers_of_version_1_stay_in_version_2() {
             Some(bytes) if is_of_version_1(bytes) => bytes[3] = 2,
             _ => continue,
         }
-        if let Answer::Rewrite(rewriting, out) = &mut expected {
-            if rewriting.verdict.accepted() {
+        let verdict = expected.verdict();
+        if let Answer::Rewrite(_, out) | Answer::Expand(_, out) = &mut expected {
+            if verdict == Some(Verdict::ACCEPTED) {
                 out[3] = 2;
             }
         }
