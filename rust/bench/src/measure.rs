@@ -41,38 +41,59 @@ pub fn call(engine: Engine, case: &Case, calls: usize, words: &mut [u64]) {
     }
 }
 
-/// How many calls fill a turn: whole rounds over the inputs. Finding it out warms the engine up.
-fn calls_a_turn(engine: Engine, case: &Case, turn: Duration, words: &mut [u64]) -> usize {
-    let mut calls = case.inputs.len();
-    loop {
-        let start = Instant::now();
-        call(engine, case, calls, words);
-        if start.elapsed() >= turn {
-            return calls;
+/// What takes turns with others: so many calls at a time, at least `least` of them, and where it is slow in few rounds only.
+pub struct Turns<'a> {
+    pub call: Box<dyn FnMut(usize) + 'a>,
+    pub least: usize,
+    pub is_slow: bool,
+}
+
+impl Turns<'_> {
+    /// How many calls fill a turn: whole rounds over the inputs. Finding it out warms the engine up.
+    fn calls_a_turn(&mut self, turn: Duration) -> usize {
+        let mut calls = self.least;
+        loop {
+            let start = Instant::now();
+            (self.call)(calls);
+            if start.elapsed() >= turn {
+                return calls;
+            }
+            calls *= 2;
         }
-        calls *= 2;
     }
 }
 
-/// The nanoseconds of one call, for each engine: the median over the rounds. The engines take turns in every round, so that what slows the
-/// machine down for a while slows all of them; a slow engine only now and then.
-pub fn times<const N: usize>(engines: [Engine; N], case: &Case, effort: Effort) -> [f64; N] {
-    let mut turns = engines.map(|engine| {
-        let mut words = workspace();
-        let calls = calls_a_turn(engine, case, effort.turn, &mut words);
-        (engine, words, calls, Vec::new())
+/// The nanoseconds of one call of each: the median over the rounds. All take turns in every round, so that what slows the machine down for a
+/// while slows all of them; a slow one only now and then.
+pub fn medians<const N: usize>(turns: [Turns; N], effort: Effort) -> [f64; N] {
+    let mut turns = turns.map(|mut turns| {
+        let calls = turns.calls_a_turn(effort.turn);
+        (turns, calls, Vec::new())
     });
     for round in 0..effort.rounds {
-        for (engine, words, calls, taken) in &mut turns {
-            if engine.is_slow() && round % SELDOM != 0 {
+        for (turns, calls, taken) in &mut turns {
+            if turns.is_slow && round % SELDOM != 0 {
                 continue;
             }
             let start = Instant::now();
-            call(*engine, case, *calls, words);
+            (turns.call)(*calls);
             taken.push(start.elapsed().as_nanos() as f64 / *calls as f64);
         }
     }
-    turns.map(|(_, _, _, taken)| median(taken))
+    turns.map(|(_, _, taken)| median(taken))
+}
+
+/// The times of engines on a case, each with a workspace of its own.
+pub fn times<const N: usize>(engines: [Engine; N], case: &Case, effort: Effort) -> [f64; N] {
+    let turns = engines.map(|engine| {
+        let mut words = workspace();
+        Turns {
+            call: Box::new(move |calls| call(engine, case, calls, &mut words)),
+            least: case.inputs.len(),
+            is_slow: engine.is_slow(),
+        }
+    });
+    medians(turns, effort)
 }
 
 fn median(mut taken: Vec<f64>) -> f64 {

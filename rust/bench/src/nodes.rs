@@ -1,15 +1,25 @@
 //! Tables made node by node. Each function adds a node and answers its index.
 
-/// Operators that version 1 does not know.
+/// Operators that version 1 does not know, and those that version 2 does not.
 const RISEN: u8 = 5;
 const FALLEN: u8 = 6;
+const TIMES: u8 = 23;
+const DELAY: u8 = 24;
+const GOTO: u8 = 25;
+const IMPLIES_NEXT: u8 = 41;
+const ALWAYS: u8 = 44;
+const STRONG_UNTIL: u8 = 46;
 
 #[derive(Default)]
 pub struct Nodes(Vec<[u8; 4]>);
 
 impl Nodes {
     fn add(&mut self, op: u8, x: u8, y: u8) -> u8 {
-        self.0.push([op, x, y, 0]);
+        self.add_with(op, x, y, 0)
+    }
+
+    fn add_with(&mut self, op: u8, x: u8, y: u8, fourth: u8) -> u8 {
+        self.0.push([op, x, y, fourth]);
         u8::try_from(self.0.len() - 1).expect("at most 120 nodes")
     }
 
@@ -101,14 +111,45 @@ impl Nodes {
         self.add(40, c, p)
     }
 
+    /// `a[*m:n]`
+    pub fn times(&mut self, a: u8, m: u8, n: u8) -> u8 {
+        self.add_with(TIMES, a, 0, m + 16 * n)
+    }
+
+    /// `a ##[m:n] b`
+    pub fn delay(&mut self, a: u8, b: u8, m: u8, n: u8) -> u8 {
+        self.add_with(DELAY, a, b, m + 16 * n)
+    }
+
+    /// `b[->m]`
+    pub fn goto(&mut self, b: u8, m: u8) -> u8 {
+        self.add_with(GOTO, b, 0, m)
+    }
+
+    pub fn implies_next(&mut self, a: u8, p: u8) -> u8 {
+        self.add(IMPLIES_NEXT, a, p)
+    }
+
+    pub fn always(&mut self, p: u8) -> u8 {
+        self.add(ALWAYS, p, 0)
+    }
+
+    pub fn strong_until(&mut self, p: u8, q: u8) -> u8 {
+        self.add(STRONG_UNTIL, p, q)
+    }
+
     pub fn len(&self) -> usize {
         self.0.len()
     }
 
     /// The first version that knows all nodes.
     fn version(&self) -> u8 {
-        let later = |node: &[u8; 4]| matches!(node[0], RISEN | FALLEN);
-        1 + u8::from(self.0.iter().any(later))
+        let first = |node: &[u8; 4]| match node[0] {
+            RISEN | FALLEN => 2,
+            TIMES..=GOTO | IMPLIES_NEXT..=STRONG_UNTIL => 3,
+            _ => 1,
+        };
+        self.0.iter().map(first).max().unwrap_or(1)
     }
 
     /// The table's bytes; the last node is the root.

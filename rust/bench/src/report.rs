@@ -2,6 +2,7 @@
 use crate::cases::{self, Case};
 use crate::compare;
 use crate::engines::Engine;
+use crate::expanding;
 use crate::measure::{times, Effort};
 use crate::nodes::clocked_count;
 use crate::past;
@@ -18,12 +19,16 @@ pub fn all(effort: Effort) -> Result<(), String> {
     for case in &past_13 {
         compare::past(case)?;
     }
+    for table in expanding::all() {
+        expanding::agree(&table)?;
+    }
     introduce(effort);
     engines(&main, effort);
     growth("Time against n, one random table", &by_n, effort);
     growth("Time against m, random tables", &by_m, effort);
     plain_alone(&past_13, effort);
     plain_growth(effort);
+    expanding::report(effort);
     Ok(())
 }
 

@@ -23,6 +23,13 @@ pub struct MatchEnds {
     pub top: bool,
 }
 
+/// How many nodes the expanded table has.
+#[derive(Clone, Copy, Debug, Default, PartialEq, Eq)]
+pub struct Expansion {
+    pub verdict: Verdict,
+    pub count: usize,
+}
+
 /// How many nodes the rewritten table has.
 #[derive(Clone, Copy, Debug, Default, PartialEq, Eq)]
 pub struct Rewriting {

@@ -2,7 +2,6 @@
 use crate::answers::Verdict;
 use crate::operators::*;
 use crate::tops::{flags, hollow};
-use std::ops::RangeInclusive;
 
 /// The bytes before the nodes.
 pub const HEADING: usize = 6;
@@ -10,8 +9,8 @@ pub const HEADING: usize = 6;
 /// The nodes of a table, at most.
 pub const MOST: usize = 120;
 
-/// The versions of tables.
-const VERSIONS: RangeInclusive<u16> = 1..=2;
+/// The newest version of a table.
+const NEWEST: u16 = 3;
 
 /// A table read off its bytes.
 pub struct Table<'a> {
@@ -43,7 +42,7 @@ fn parts(table: &[u8]) -> Result<Table<'_>, Verdict> {
         return Err(Verdict::refusal(2));
     }
     let version = u16::from_le_bytes([heading[3], heading[4]]);
-    if !VERSIONS.contains(&version) {
+    if version == 0 || version > NEWEST {
         return Err(Verdict::refusal(3));
     }
     let count = usize::from(heading[5]);
@@ -78,14 +77,15 @@ fn check_nodes(table: &Table) -> Result<(), Verdict> {
     for (k, &[op, x, y, fourth]) in nodes.iter().enumerate() {
         let operator = OPERATORS[usize::from(op)];
         let known = operator.is_known(table.version);
-        if !known || !fits(&found.sorts, operator, x, y) || fourth != 0 {
+        let serves = known && fits(&found.sorts, operator, x, y);
+        if !serves || !operator.fourth.fits(fourth) {
             return Err(Verdict::at(6, k));
         }
         let (x, y) = (usize::from(x), usize::from(y));
         found.sorts[k] = operator.own;
         found.places[x] += u8::from(operator.x >= SEQUENCE);
         found.places[y] += u8::from(operator.y >= SEQUENCE);
-        found.flags[k] = flags(op, found.flags[x], found.flags[y]);
+        found.flags[k] = flags(op, fourth, found.flags[x], found.flags[y]);
         if first_hollow.is_none() && hollow(op, found.flags[x]) {
             first_hollow = Some(k);
         }

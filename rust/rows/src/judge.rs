@@ -1,6 +1,7 @@
 //! The judge and match ends: all refusals before the first write, then the rows, then what is read off them.
 use crate::answers::{Judgement, MatchEnds, Verdict};
 use crate::check::{checked, HEADING, MOST};
+use crate::expand::{in_base_operators, Space};
 use crate::fill::fill;
 use crate::operators::{OPERATORS, PROPERTY, SEQUENCE};
 use crate::rewrite::{write, Plan};
@@ -18,10 +19,12 @@ struct Call {
     words: usize,
 }
 
-/// Refusals 1 to 9, 12, 13, 10, 14 and 11; with none, the nodes of the table, the rewritten one in `new`, and how it was made in `plan`.
+/// Refusals 1 to 9, 12, 13, 10, 14 and 11; with none, the nodes of the table, expanded into `space` where it is of version 3, the rewritten one in `new`, and
+/// how it was made in `plan`.
 fn settle<'a>(
     table: &'a [u8],
     call: Call,
+    space: &'a mut Space,
     plan: &mut Plan,
     new: &mut [u8; ROOM],
 ) -> Result<&'a [[u8; 4]], Verdict> {
@@ -30,6 +33,7 @@ fn settle<'a>(
     if OPERATORS[usize::from(root)].own == call.wrong {
         return Err(Verdict::refusal(12));
     }
+    let table = in_base_operators(table, space)?;
     plan.make(table.nodes);
     let refusals = [
         (plan.all > MOST, 13),
@@ -55,7 +59,8 @@ pub fn judge(table: &[u8], samples: &[u64], workspace: &mut [u64]) -> Judgement 
         start: 0,
         words: workspace.len(),
     };
-    let nodes = match settle(table, call, &mut plan, &mut new) {
+    let mut space = None;
+    let nodes = match settle(table, call, &mut space, &mut plan, &mut new) {
         Ok(nodes) => nodes,
         Err(verdict) => {
             return Judgement {
@@ -94,7 +99,7 @@ pub fn match_ends(table: &[u8], samples: &[u64], start: usize, workspace: &mut [
         start,
         words: workspace.len(),
     };
-    if let Err(verdict) = settle(table, call, &mut plan, &mut new) {
+    if let Err(verdict) = settle(table, call, &mut None, &mut plan, &mut new) {
         return MatchEnds {
             verdict,
             ..MatchEnds::default()

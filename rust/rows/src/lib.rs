@@ -1,4 +1,4 @@
-//! The judge's row rules in safe Rust, by word operations and without proof: the baseline that the proved judge is measured against.
+//! The judge's row rules and the expander in safe Rust, by word operations and without proof: the baseline that the proved ones are measured against.
 //!
 //! It does the same whole work by the same rules: it checks the table, rewrites the clocks away into an array, fills every row in the workspace,
 //! reads the level off the last one and asks the clocked table whether it was tested. It is written for speed, and does this otherwise than the proved code:
@@ -15,17 +15,20 @@ mod answers;
 mod blocks;
 mod booleans;
 mod check;
+mod expand;
 mod fill;
 mod judge;
 mod operators;
 mod properties;
 mod rewrite;
 mod sequences;
+mod sizes;
 mod tested;
 mod tops;
 
-pub use answers::{Judgement, MatchEnds, Rewriting, Verdict};
+pub use answers::{Expansion, Judgement, MatchEnds, Rewriting, Verdict};
 pub use check::check;
+pub use expand::expand;
 pub use judge::{judge, match_ends};
 pub use rewrite::rewrite;
 

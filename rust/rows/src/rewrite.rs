@@ -2,6 +2,7 @@
 use crate::answers::{Rewriting, Verdict};
 use crate::blocks;
 use crate::check::{checked, Table, HEADING, MOST};
+use crate::expand::in_base_operators;
 use crate::operators::*;
 
 /// A clock as a byte: the number of its condition, or this one, which no node has.
@@ -69,7 +70,8 @@ pub fn rewrite(table: &[u8], out: &mut [u8]) -> Rewriting {
 }
 
 fn rewritten(table: &[u8], out: &mut [u8]) -> Result<usize, Verdict> {
-    let table = checked(table)?;
+    let mut space = None;
+    let table = in_base_operators(checked(table)?, &mut space)?;
     let mut plan = Plan::default();
     plan.make(table.nodes);
     if plan.all > MOST {

@@ -154,8 +154,8 @@ fn version_2_has_all_of_version_1() {
 #[test]
 fn refusal_3() {
     let number = |version| check(&table(version, &strong(A))).number;
-    assert_eq!([1, 2].map(number), [0, 0]);
-    assert_eq!([0, 3, 4, 256, 257, 258, 512, 513].map(number), [3; 8]);
+    assert_eq!([1, 2, 3].map(number), [0, 0, 0]);
+    assert_eq!([0, 4, 256, 257, 258, 259, 512, 513].map(number), [3; 8]);
 }
 
 #[test]

@@ -5,10 +5,11 @@
 //! the assertion holds on the samples. Bad input is refused with a [`Refusal`], and then nothing
 //! lent is changed.
 //!
-//! A table is of version 1 or 2, a record of version 1. A version 2 table may also ask whether a
+//! A table is of version 1, 2 or 3, a record of version 1. A version 2 table may also ask whether a
 //! signal has risen or fallen since the sample before (operators 5 and 6); the sample before the
 //! first is all zero. So a letter is a pair of samples, made of all the samples that are lent,
-//! whatever the start.
+//! whatever the start. A version 3 table may also have derived operators (23 to 26 and 41 to 47):
+//! [`expand`] makes a version 2 table of it, and every other call reads it as that one.
 //!
 //! Two judges answer the same, each proved by itself: [`judge`], which rewrites the clocks of a table
 //! away and leaves rows in a workspace ([`Judge`] has one of its own), and [`plain_judge`], which reads
@@ -57,7 +58,7 @@ pub mod raw;
 mod refusal;
 
 pub use answers::{Judgement, Level, MatchEnds};
-pub use owned::{samples, Judge};
+pub use owned::{expanded, samples, Judge};
 pub use refusal::Refusal;
 
 /// The samples of a record, at most.
@@ -69,10 +70,11 @@ pub const SHARE: usize = 65;
 /// The words of a workspace that are enough for every table.
 pub const WORKSPACE: usize = 7800;
 
-/// The bytes that are enough for every rewritten table.
+/// The bytes that are enough for every expanded or rewritten table.
 pub const TABLE_BYTES: usize = 486;
 
-/// Checks a table of version 1 or 2: refusals 1 to 9.
+/// Checks a table of version 1, 2 or 3: refusals 1 to 9. Of version 3, 9 is read on its expansion, and one
+/// that [`expand`] refuses with 13 is accepted.
 pub fn check(table: &[u8]) -> Result<(), Refusal> {
     refusal::settle(raw::check(table))
 }
@@ -87,8 +89,20 @@ pub fn read(record: &[u8], out: &mut [u64]) -> Result<usize, Refusal> {
     Ok(reading.count)
 }
 
+/// Expands the derived operators of a version 3 table and answers how many nodes the new table has. A
+/// new table of m nodes, of version 2 and with base operators alone, is written to the first 6 + 4m
+/// bytes of `out`; later bytes stay. A table of version 1 or 2 is copied as it is. [`TABLE_BYTES`]
+/// bytes are enough for every table; [`expanded`] has them of its own.
+///
+/// Refusals 1 to 9, 13, 15, in this order; 9 names the node of the table that is given.
+pub fn expand(table: &[u8], out: &mut [u8]) -> Result<usize, Refusal> {
+    let expansion = raw::expand(table, out);
+    refusal::settle(expansion.verdict)?;
+    Ok(expansion.count)
+}
+
 /// Rewrites the clocks of a table away and answers how many nodes the new table has. A new table of
-/// m nodes, of the same version, is written to the first 6 + 4m bytes of `out`; later bytes stay.
+/// m nodes, of the same version or of 2 for a version 3 table, is written to the first 6 + 4m bytes of `out`; later bytes stay.
 /// [`TABLE_BYTES`] bytes are enough for every table.
 ///
 /// Refusals 1 to 9, 13, 15, in this order.
@@ -113,7 +127,8 @@ pub fn judge(table: &[u8], samples: &[u64], workspace: &mut [u64]) -> Result<Jud
 /// is answered too. It calls itself on a node's operands, and no table needs more than 256 KiB of
 /// stack for that.
 ///
-/// Refusals 1 to 9, 12, 10, in this order.
+/// Refusals 1 to 9, 12, 13, 10, in this order; 13 where the expansion of a version 3 table has more than
+/// 120 nodes.
 ///
 /// ```
 /// // @(a) over eight nexttimes of strong(a), each rewritten to 14 nodes

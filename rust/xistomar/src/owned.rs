@@ -1,5 +1,5 @@
 //! The same calls with memory of their own.
-use crate::{Judgement, MatchEnds, Refusal, LONGEST, WORKSPACE};
+use crate::{Judgement, MatchEnds, Refusal, LONGEST, TABLE_BYTES, WORKSPACE};
 use std::fmt;
 
 /// Reads a record into a new vector. Refusals 1, 2, 3, 10, 5, as of [`crate::read`].
@@ -7,6 +7,28 @@ pub fn samples(record: &[u8]) -> Result<Vec<u64>, Refusal> {
     let mut out = [0; LONGEST];
     let count = crate::read(record, &mut out)?;
     Ok(out[..count].to_vec())
+}
+
+/// Expands a table into a new vector, so that every call takes it. Refusals 1 to 9, 13, as of
+/// [`crate::expand`].
+///
+/// ```
+/// use xistomar::{expanded, plain_judge};
+///
+/// // a |=> strong(b)
+/// let mut table = b"SVT\x03\x00\x06".to_vec();
+/// table.extend([1, 0, 0, 0, 1, 1, 0, 0]);
+/// table.extend([16, 0, 0, 0, 16, 1, 0, 0]);
+/// table.extend([32, 3, 0, 0, 41, 2, 4, 0]);
+///
+/// let judgement = plain_judge(&expanded(&table)?, &[1, 2])?;
+/// assert_eq!(judgement.to_string(), "level 3 tested yes");
+/// # Ok::<(), xistomar::Refusal>(())
+/// ```
+pub fn expanded(table: &[u8]) -> Result<Vec<u8>, Refusal> {
+    let mut out = [0; TABLE_BYTES];
+    let count = crate::expand(table, &mut out)?;
+    Ok(out[..6 + 4 * count].to_vec())
 }
 
 /// A judge with a workspace that is large enough for every table, so that refusal 11 is never given.

@@ -22,6 +22,16 @@ pub struct Reading {
     pub count: usize,
 }
 
+/// How many nodes the expanded table has.
+#[repr(C)]
+#[derive(Clone, Copy, Debug, PartialEq, Eq)]
+pub struct Expansion {
+    /// Whether the input was refused.
+    pub verdict: Verdict,
+    /// The nodes written, 1 to 120; 0 with a refusal.
+    pub count: usize,
+}
+
 /// How many nodes the rewritten table has.
 #[repr(C)]
 #[derive(Clone, Copy, Debug, PartialEq, Eq)]
@@ -65,6 +75,12 @@ extern "C" {
         out: *mut u64,
         out_words: usize,
     ) -> Reading;
+    fn xistomar_expand(
+        table: *const u8,
+        table_bytes: usize,
+        out: *mut u8,
+        out_bytes: usize,
+    ) -> Expansion;
     fn xistomar_rewrite(
         table: *const u8,
         table_bytes: usize,
@@ -110,6 +126,12 @@ pub fn check(table: &[u8]) -> Verdict {
 pub fn read(record: &[u8], out: &mut [u64]) -> Reading {
     // SAFETY: as in `check`; a shared and an exclusive slice do not overlap.
     unsafe { xistomar_read(record.as_ptr(), record.len(), out.as_mut_ptr(), out.len()) }
+}
+
+/// Expands the derived operators of a table, into the first bytes of `out`.
+pub fn expand(table: &[u8], out: &mut [u8]) -> Expansion {
+    // SAFETY: as in `read`.
+    unsafe { xistomar_expand(table.as_ptr(), table.len(), out.as_mut_ptr(), out.len()) }
 }
 
 /// Rewrites the clocks of a table away, into the first bytes of `out`.
@@ -177,6 +199,10 @@ mod tests {
         assert_eq!(size_of::<Reading>(), 24);
         assert_eq!(offset_of!(Reading, verdict), 0);
         assert_eq!(offset_of!(Reading, count), 16);
+
+        assert_eq!(size_of::<Expansion>(), 24);
+        assert_eq!(offset_of!(Expansion, verdict), 0);
+        assert_eq!(offset_of!(Expansion, count), 16);
 
         assert_eq!(size_of::<Rewriting>(), 24);
         assert_eq!(offset_of!(Rewriting, verdict), 0);

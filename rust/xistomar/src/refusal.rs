@@ -26,12 +26,12 @@ impl Refusal {
         match self.number {
             1 => "fewer than 6 bytes",
             2 => "wrong mark",
-            3 => "version of a table neither 1 nor 2, of a record not 1",
+            3 => "version of a table none of 1 to 3, of a record not 1",
             4 => "count 0 or over 120",
             5 => "length disagrees with the count",
             6 => {
-                "node with unknown operator, bad x or y, fourth byte not 0, operand not below, \
-                 operand of wrong sort"
+                "node with unknown operator, bad x, y or fourth byte, operand not below, operand of \
+                 wrong sort"
             }
             7 => "sequence or property node, not root, in other than one operand place",
             8 => "root is a boolean",
@@ -39,7 +39,7 @@ impl Refusal {
             10 => "more than 63 samples",
             11 => "workspace below 65 times the rewritten count",
             12 => "judge given a sequence root, or match ends a property root",
-            13 => "rewritten count over 120",
+            13 => "expanded or rewritten count over 120",
             14 => "start above n",
             15 => "output too small",
             _ => unreachable!("the library is proved to answer no other number"),

@@ -188,7 +188,7 @@ fn refusals_1_to_9_of_a_table() {
     assert_eq!(check(&strong_a[..5]), (1, 0));
     assert_eq!(check(&with(2, b'W')), (2, 0));
     assert_eq!(check(&with(3, 0)), (3, 0));
-    assert_eq!(check(&with(3, 3)), (3, 0));
+    assert_eq!(check(&with(3, 4)), (3, 0));
     assert_eq!(check(&with(4, 1)), (3, 0));
     assert_eq!(check(&with(5, 0)), (4, 0));
     assert_eq!(check(&with(5, 121)), (4, 0));

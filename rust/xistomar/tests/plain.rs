@@ -46,7 +46,7 @@ fn a_table_is_refused_as_by_check_whatever_the_record() {
     let tables = [
         (1, 0, strong_a[..5].to_vec()),
         (2, 0, with(2, b'W')),
-        (3, 0, with(3, 3)),
+        (3, 0, with(3, 4)),
         (4, 0, with(5, 121)),
         (5, 0, with(5, 2)),
         (6, 2, with(14, 99)),

@@ -78,7 +78,8 @@ fn what_each_version_knows() {
     assert_eq!(refused(check(2, [5, 64, 0])), (6, 0));
     assert_eq!(refused(check(2, [6, 0, 1])), (6, 0));
     assert_eq!(refused(check(2, [7, 0, 0])), (6, 0));
-    assert_eq!(refused(check(3, ROSE_A)), (3, 0));
+    assert_eq!(check(3, ROSE_A), Ok(()));
+    assert_eq!(refused(check(4, ROSE_A)), (3, 0));
     assert_eq!(refused(check(258, ROSE_A)), (3, 0));
 }
 

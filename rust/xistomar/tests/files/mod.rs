@@ -14,7 +14,7 @@ pub fn record(version: u16, samples: &[u64]) -> Vec<u8> {
 }
 
 /// The form that both share: a mark, a version, a count, and parts of one size.
-fn file<const SIZE: usize>(mark: &[u8; 3], version: u16, parts: &[[u8; SIZE]]) -> Vec<u8> {
+pub fn file<const SIZE: usize>(mark: &[u8; 3], version: u16, parts: &[[u8; SIZE]]) -> Vec<u8> {
     let mut bytes = mark.to_vec();
     bytes.extend(version.to_le_bytes());
     bytes.push(parts.len() as u8);
