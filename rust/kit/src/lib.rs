@@ -32,6 +32,7 @@ mod options;
 mod picture;
 mod refusals;
 mod required;
+mod sizes;
 mod source;
 #[cfg(test)]
 mod testing;

@@ -1,13 +1,15 @@
 //! Assertions that are asked at the first sample only.
 //!
 //! SystemVerilog's `assert property` asks at every tick of its clock. Here an assertion is asked at the
-//! first sample, and `P until strong(0)` asks P at every one. So each `|->`, `strong` or `weak` with no
-//! `until` above it is asked once, and people are told so, with what to write instead.
+//! first sample, and `always P` asks P at every one. So each implication, `strong` or `weak` with no
+//! `always`, `until` or the like above it is asked once, and people are told so, with what to write
+//! instead.
 use crate::assertion::{Assertion, Operator, MOST_NODES};
 use crate::names::Names;
 use crate::notation;
 use crate::options::Options;
 use crate::refusals;
+use crate::source::Source;
 
 /// What is asked at the first sample only, and how to ask it at every one.
 #[derive(Clone, Debug, PartialEq, Eq)]
@@ -60,7 +62,7 @@ impl Once {
                  or say with --once that once is meant.\n"
             ),
             Err(why) => format!(
-                "{once} (..) until strong(0) around it asks at every {every}, {why}.\n\
+                "{once} always (..) around it asks at every {every}, {why}.\n\
                  Say with --once that once is meant.\n"
             ),
         }
@@ -85,7 +87,7 @@ fn below_clocks(assertion: &Assertion) -> usize {
     node
 }
 
-/// Finds the nodes that need `(..) until strong(0)` around them: what is asked once, below its clocks.
+/// Finds the nodes that need `always (..)` around them: what is asked once, below its clocks.
 fn collect(assertion: &Assertion, index: usize, found: &mut Vec<usize>) {
     if !asks_once(assertion, index) {
         return;
@@ -102,21 +104,23 @@ fn collect(assertion: &Assertion, index: usize, found: &mut Vec<usize>) {
     }
 }
 
-/// Whether a `|->`, `strong` or `weak` in a part has no `until` above it there.
+/// Whether an implication, `strong` or `weak` in a part has nothing above it there that asks again.
 fn asks_once(assertion: &Assertion, index: usize) -> bool {
     let node = assertion.node(index);
     match node.operator {
-        Operator::Strong | Operator::Weak | Operator::Implies => true,
+        Operator::Strong | Operator::Weak => true,
+        implication if implication.is_implication() => true,
         Operator::ClockedProperty => asks_once(assertion, usize::from(node.y)),
         Operator::PropertyNot
         | Operator::PropertyAnd
         | Operator::PropertyOr
-        | Operator::Nexttime => node.operands().any(|operand| asks_once(assertion, operand)),
+        | Operator::Nexttime
+        | Operator::StrongNexttime => node.operands().any(|operand| asks_once(assertion, operand)),
         _ => false,
     }
 }
 
-/// Whether the sides of an `and` need an until each: one of them, or of the `and`s that it is made of, has
+/// Whether the sides of an `and` need an always each: one of them, or of the `and`s that it is made of, has
 /// a clock of its own or needs none.
 fn is_divided(assertion: &Assertion, index: usize) -> bool {
     let node = assertion.node(index);
@@ -132,7 +136,11 @@ fn instead(assertion: &Assertion, nodes: &[usize], names: &Names) -> Result<Stri
     let many =
         || format!("but then it has more than {MOST_NODES} nodes, and {MOST_NODES} is the most");
     let always = assertion.asked_always(nodes).ok_or_else(many)?;
-    if let Some(words) = refusals::too_large(&always.table()) {
+    let source = Source {
+        table: always.table(),
+        names: names.clone(),
+    };
+    if let Some(words) = refusals::too_large(&source) {
         return Err(format!("but then {words}"));
     }
     let text = notation::whole(&always, names);

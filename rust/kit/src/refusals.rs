@@ -2,6 +2,8 @@
 use crate::assertion::{Assertion, Sort};
 use crate::failure::Failure;
 use crate::files;
+use crate::sizes;
+use crate::source::Source;
 use std::path::Path;
 use xistomar::Refusal;
 
@@ -10,18 +12,33 @@ pub fn line(refusal: Refusal) -> String {
     format!("refused {} at {}", refusal.number(), refusal.node())
 }
 
-/// The failure for a file that is refused: the program's line and the page's words, and of 13 what to do.
+/// The failure for a file that is refused: the program's line and the page's words.
 pub fn failure(path: &Path, refusal: Refusal) -> Failure {
     let (shown, line, reason) = (files::shown(path), line(refusal), refusal.reason());
-    let words = format!("{shown}: {line}: {reason}");
-    Failure::Refused(match refusal.number() {
-        13 => format!("{words}\n{}", PAST.trim_end()),
-        _ => words,
-    })
+    Failure::Refused(format!("{shown}: {line}: {reason}"))
 }
 
-/// What to do about refusal 13, a line.
-pub const PAST: &str =
+/// The same for a table, and of 13 what to do.
+pub fn table_failure(path: &Path, source: &Source, refusal: Refusal) -> Failure {
+    let failure = failure(path, refusal);
+    match refusal.number() {
+        13 => Failure::Refused(format!("{}\n{}", failure.words(), past(source).trim_end())),
+        _ => failure,
+    }
+}
+
+/// What to do about refusal 13, in lines: shorten what is written out to too much, or ask the plain engine.
+pub fn past(source: &Source) -> String {
+    match sizes::past(&source.table, &source.names) {
+        Some((words, lines)) => {
+            format!("Of these parts one is to be shortened: {words}. Each counts with all that stands in it.\n{lines}")
+        }
+        None => PAST.to_string(),
+    }
+}
+
+/// What to do about refusal 13 where the clocks are rewritten to too much, a line.
+const PAST: &str =
     "The plain engine judges it: leave out --engine fast, and --asked, which is read off the fast engine's rows.\n";
 
 /// What a file may be whose mark is not the one that is due.
@@ -59,12 +76,16 @@ pub fn sequence(assertion: &Assertion) -> Option<&'static str> {
     (root.sort() == Sort::Sequence).then_some(words)
 }
 
-/// What to say of an accepted table that is too large once its clocks are rewritten away.
-pub fn too_large(table: &[u8]) -> Option<&'static str> {
+/// What to say of an accepted table that is too large once it is written out, or its clocks are rewritten
+/// away.
+pub fn too_large(source: &Source) -> Option<String> {
+    if let Some((words, _)) = sizes::past(&source.table, &source.names) {
+        return Some(format!("no engine judges it: {words}"));
+    }
     let mut rewritten = [0; xistomar::TABLE_BYTES];
-    let refusal = xistomar::rewrite(table, &mut rewritten).err()?;
+    let refusal = xistomar::rewrite(&source.table, &mut rewritten).err()?;
     let words =
         "the fast engine and the program refuse it with 13, rewritten count over 120: under a \
                  clock each letter counts 9 nodes, each nexttime 14 and each until 9; the plain engine judges it";
-    (refusal.number() == 13).then_some(words)
+    (refusal.number() == 13).then(|| words.to_string())
 }

@@ -21,8 +21,24 @@ impl Builder {
     /// Adds a node over nodes that were added before and answers its index; none where there would
     /// be more than [`MOST_NODES`].
     pub fn add(&mut self, operator: Operator, x: usize, y: usize) -> Option<usize> {
+        self.add_counted(operator, x, y, 0)
+    }
+
+    /// The same for a node that counts, with its fourth byte.
+    pub fn add_counted(
+        &mut self,
+        operator: Operator,
+        x: usize,
+        y: usize,
+        fourth: u8,
+    ) -> Option<usize> {
         let (x, y) = (u8::try_from(x).ok()?, u8::try_from(y).ok()?);
-        let node = Node { operator, x, y };
+        let node = Node {
+            operator,
+            x,
+            y,
+            fourth,
+        };
         if let Some(index) = self.booleans.get(&node) {
             return Some(*index);
         }

@@ -5,7 +5,7 @@ use std::collections::HashMap;
 /// A new assertion that is being made of the nodes of another.
 pub(super) struct Copying<'a> {
     assertion: &'a Assertion,
-    /// The property nodes that get `(..) until strong(0)` around them.
+    /// The property nodes that get `always (..)` around them.
     always: &'a [usize],
     builder: Builder,
     copied: HashMap<usize, usize>,
@@ -45,20 +45,13 @@ impl<'a> Copying<'a> {
         for operand in [first, second].into_iter().flatten() {
             *operand = self.copy(*operand)?;
         }
-        let mut copy = self.add(node.operator, x, y)?;
+        let counted = self.builder.add_counted(node.operator, x, y, node.fourth);
+        let mut copy = counted?;
         if self.always.contains(&index) {
-            copy = self.until_never(copy)?;
+            copy = self.add(Operator::Always, copy, 0)?;
         }
         self.copied.insert(index, copy);
         Some(copy)
-    }
-
-    /// `(..) until strong(0)` of a property that was copied.
-    fn until_never(&mut self, property: usize) -> Option<usize> {
-        let never = self.add(Operator::Constant, 0, 0)?;
-        let letter = self.add(Operator::Letter, never, 0)?;
-        let strong = self.add(Operator::Strong, letter, 0)?;
-        self.add(Operator::Until, property, strong)
     }
 
     /// Adds a node over nodes that were copied or added before.

@@ -1,15 +1,17 @@
 //! An assertion as the nodes of an accepted table, and its parts as tables of their own.
 mod build;
 mod copying;
+mod expanded;
 mod operators;
 mod rewritten;
 
 pub use build::{Builder, MOST_NODES};
 use copying::Copying;
+pub use expanded::Expanded;
 pub use operators::{Operator, Sort};
 use xistomar::Refusal;
 
-/// A node of a table: its operator and its operands. Operands that are not used are 0.
+/// A node of a table: its operator, its operands, and what it counts. Bytes that are not used are 0.
 #[derive(Clone, Copy, Debug, PartialEq, Eq, Hash)]
 pub struct Node {
     /// The operator.
@@ -18,6 +20,8 @@ pub struct Node {
     pub x: u8,
     /// The second operand's index.
     pub y: u8,
+    /// The fourth byte: m + 16n of `[*m:n]` and `##[m:n]`, m of `[->m]` and `[=m]`.
+    pub fourth: u8,
 }
 
 impl Node {
@@ -26,6 +30,11 @@ impl Node {
         let [x, y] = [self.x, self.y].map(usize::from);
         let count = self.operator.operands().len();
         [x, y].into_iter().take(count)
+    }
+
+    /// m and n of `[*m:n]` and `##[m:n]`.
+    pub fn bounds(self) -> (u8, u8) {
+        (self.fourth % 16, self.fourth / 16)
     }
 }
 
@@ -54,7 +63,8 @@ impl Assertion {
         }
     }
 
-    /// The lowest version of tables that has all its operators: 1, or 2 where a signal rises or falls.
+    /// The lowest version of tables that has all its operators: 1, 2 where a signal rises or falls, 3
+    /// where an operator is derived.
     pub fn version(&self) -> u16 {
         let versions = self.nodes.iter().map(|node| node.operator.since());
         versions.max().unwrap_or(1)
@@ -65,7 +75,7 @@ impl Assertion {
         let [low, high] = self.version().to_le_bytes();
         let mut table = vec![b'S', b'V', b'T', low, high, self.nodes.len() as u8];
         for node in &self.nodes {
-            table.extend([node.operator as u8, node.x, node.y, 0]);
+            table.extend([node.operator as u8, node.x, node.y, node.fourth]);
         }
         table
     }
@@ -86,6 +96,7 @@ impl Assertion {
             operator: Operator::Constant,
             x: 0,
             y: 0,
+            fourth: 0,
         })
     }
 
@@ -147,8 +158,8 @@ impl Assertion {
         self.built(copying, strong)
     }
 
-    /// The same assertion in the kit's order, with `(..) until strong(0)` around some of its property
-    /// nodes; none where that has more than [`MOST_NODES`] nodes.
+    /// The same assertion in the kit's order, with `always (..)` around some of its property nodes; none
+    /// where that has more than [`MOST_NODES`] nodes.
     pub fn asked_always(&self, nodes: &[usize]) -> Option<Assertion> {
         let mut copying = Copying::asking_always(self, nodes);
         copying.copy(self.root())?;
@@ -182,7 +193,12 @@ impl Assertion {
 fn nodes_of(table: &[u8]) -> Vec<Node> {
     let bytes = table.get(6..).unwrap_or_default();
     let node = |bytes: &[u8]| match *bytes {
-        [operator, x, y, _] => Operator::of(operator).map(|operator| Node { operator, x, y }),
+        [operator, x, y, fourth] => Operator::of(operator).map(|operator| Node {
+            operator,
+            x,
+            y,
+            fourth,
+        }),
         _ => None,
     };
     bytes.chunks_exact(4).map_while(node).collect()

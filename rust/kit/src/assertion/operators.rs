@@ -43,6 +43,14 @@ pub enum Operator {
     Repeated = 21,
     /// `@(c) R`
     ClockedSequence = 22,
+    /// `R[*m:n]`
+    Times = 23,
+    /// `R ##[m:n] R`
+    Delay = 24,
+    /// `b[->m]`
+    Goto = 25,
+    /// `b[=m]`
+    Nonconsecutive = 26,
     /// `strong(R)`
     Strong = 32,
     /// `weak(R)`
@@ -61,13 +69,27 @@ pub enum Operator {
     Until = 39,
     /// `@(c) P`
     ClockedProperty = 40,
+    /// `R |=> P`
+    ImpliesNext = 41,
+    /// `R #-# P`
+    Followed = 42,
+    /// `R #=# P`
+    FollowedNext = 43,
+    /// `always P`
+    Always = 44,
+    /// `s_eventually P`
+    Eventually = 45,
+    /// `P s_until P`
+    StrongUntil = 46,
+    /// `s_nexttime P`
+    StrongNexttime = 47,
 }
 
 use Operator::*;
 use Sort::*;
 
 /// Every operator, with its own sort and those of its operands.
-const OPERATORS: [(Operator, Sort, &[Sort]); 23] = [
+const OPERATORS: [(Operator, Sort, &[Sort]); 34] = [
     (Constant, Boolean, &[]),
     (Signal, Boolean, &[]),
     (Not, Boolean, &[Boolean]),
@@ -82,6 +104,10 @@ const OPERATORS: [(Operator, Sort, &[Sort]); 23] = [
     (Empty, Sequence, &[Sequence]),
     (Repeated, Sequence, &[Sequence]),
     (ClockedSequence, Sequence, &[Boolean, Sequence]),
+    (Times, Sequence, &[Sequence]),
+    (Delay, Sequence, &[Sequence, Sequence]),
+    (Goto, Sequence, &[Boolean]),
+    (Nonconsecutive, Sequence, &[Boolean]),
     (Strong, Property, &[Sequence]),
     (Weak, Property, &[Sequence]),
     (PropertyNot, Property, &[Property]),
@@ -91,6 +117,13 @@ const OPERATORS: [(Operator, Sort, &[Sort]); 23] = [
     (Nexttime, Property, &[Property]),
     (Until, Property, &[Property, Property]),
     (ClockedProperty, Property, &[Boolean, Property]),
+    (ImpliesNext, Property, &[Sequence, Property]),
+    (Followed, Property, &[Sequence, Property]),
+    (FollowedNext, Property, &[Sequence, Property]),
+    (Always, Property, &[Property]),
+    (Eventually, Property, &[Property]),
+    (StrongUntil, Property, &[Property, Property]),
+    (StrongNexttime, Property, &[Property]),
 ];
 
 impl Operator {
@@ -114,7 +147,33 @@ impl Operator {
     pub fn since(self) -> u16 {
         match self {
             Rose | Fell => 2,
+            _ if self.is_derived() => 3,
             _ => 1,
+        }
+    }
+
+    /// Whether it is written out to other operators before a table is judged.
+    pub fn is_derived(self) -> bool {
+        matches!(self as u8, 23..=26 | 41..=47)
+    }
+
+    /// Whether it asks its right side where its left side matches: `|->`, `|=>`, `#-#` or `#=#`.
+    pub fn is_implication(self) -> bool {
+        matches!(self, Implies | ImpliesNext | Followed | FollowedNext)
+    }
+
+    /// Whether its right side is asked one sample, or tick, after the match of its left side.
+    pub fn asks_later(self) -> bool {
+        matches!(self, ImpliesNext | FollowedNext)
+    }
+
+    /// The sign of an implication.
+    pub fn sign(self) -> &'static str {
+        match self {
+            ImpliesNext => "|=>",
+            Followed => "#-#",
+            FollowedNext => "#=#",
+            _ => "|->",
         }
     }
 
@@ -136,11 +195,17 @@ mod tests {
     #[test]
     fn every_operator_has_its_number_and_row() {
         let known: Vec<u8> = (0..=255).filter(|n| Operator::of(*n).is_some()).collect();
-        let page: Vec<u8> = (0..=6).chain(16..=22).chain(32..=40).collect();
+        let page: Vec<u8> = (0..=6).chain(16..=26).chain(32..=47).collect();
         assert_eq!(known, page);
-        // document 02 adds 5 and 6 with version 2
-        let later = |number: &u8| Operator::of(*number).is_some_and(|known| known.since() == 2);
-        assert_eq!(page.into_iter().filter(later).collect::<Vec<_>>(), [5, 6]);
+        // document 02 adds 5 and 6 with version 2, and the derived ones with version 3
+        let of_version = |version: u16| {
+            let since = |number: &u8| Operator::of(*number).map(Operator::since);
+            let numbers = page.iter().copied();
+            numbers.filter(move |number| since(number) == Some(version))
+        };
+        assert_eq!(of_version(2).collect::<Vec<_>>(), [5, 6]);
+        let derived: Vec<u8> = (23..=26).chain(41..=47).collect();
+        assert_eq!(of_version(3).collect::<Vec<_>>(), derived);
         for (operator, sort, operands) in OPERATORS {
             assert_eq!(Operator::of(operator as u8), Some(operator));
             assert_eq!((operator.sort(), operator.operands()), (sort, operands));

@@ -33,7 +33,7 @@ fn run(options: &Options, console: &mut Console) -> Outcome {
     let source = source::table(path, None)?;
     let (reaching, engines) =
         accepted(asked, required, &source.table).map_err(|unjudged| match unjudged {
-            Unjudged::Refused(refusal) => refusals::failure(path, refusal),
+            Unjudged::Refused(refusal) => refusals::table_failure(path, &source, refusal),
             Unjudged::Differ(difference) => difference.failure(&[path]),
         })?;
     let found = batch::find(given);

@@ -5,6 +5,7 @@ use crate::engine::Engine;
 use crate::failure::{Outcome, BELOW, DONE, REFUSED};
 use crate::files;
 use crate::options::{Options, Spec};
+use crate::refusals;
 use crate::required::Required;
 use crate::source::{self, Source};
 use crate::verdict::{self, Account, Refused, Stopped};
@@ -39,8 +40,11 @@ fn run(options: &Options, console: &mut Console) -> Outcome {
         Err(refused) if json => {
             format!("{}\n", verdict::refusal_object(*refused, engine, required))
         }
-        Err(refused @ Refused::Table(_)) => verdict::refusal_words(*refused, table, &source.table),
-        Err(refused @ Refused::Record(_)) => verdict::refusal_words(*refused, record, &bytes),
+        Err(refused @ Refused::Table(_)) => {
+            let past = refusals::past(&source);
+            verdict::refusal_words(*refused, table, &source.table, &past)
+        }
+        Err(refused @ Refused::Record(_)) => verdict::refusal_words(*refused, record, &bytes, ""),
     })?;
     Ok(match judged {
         Ok(account) if required.reached(account.judged()) => DONE,
@@ -83,8 +87,13 @@ explains the level.
 The levels: 3 held whatever comes next, 2 held as the record stands, 1 nothing broken and still
 waiting, 0 broken.
 
+What is said of |-> holds of |=>, #-# and #=# too. Of |=> and #=# the samples told are those at
+which the right side is asked: one after the match of the left side, or under a clock the next tick.
+
 Two engines judge, each proved by itself. The fast one rewrites the clocks of the table away, and
 refuses it with 13 where that takes more than 120 nodes; the plain one reads the table as it is.
+Where derived operators alone are written out to more than 120 nodes both refuse with 13, and each
+part is told with what it is written out to.
 Both are asked, of every beginning of the record. That they agree is proved; should they differ all
 the same, that is a defect of Xistomar, which is told with both answers and status 5. Where the fast
 one alone refuses, with 13, the plain one judges alone, and it is said that it did: then there are

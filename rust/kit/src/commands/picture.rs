@@ -31,7 +31,9 @@ fn run(options: &Options, console: &mut Console) -> Outcome {
     let source = source::table(table, names)?;
     let bytes = files::read(record)?;
     let stopped = |stopped: Stopped| match stopped {
-        Stopped::Refused(Refused::Table(refusal)) => refusals::failure(table, refusal),
+        Stopped::Refused(Refused::Table(refusal)) => {
+            refusals::table_failure(table, &source, refusal)
+        }
         Stopped::Refused(Refused::Record(refusal)) => refusals::failure(record, refusal),
         Stopped::Differ(difference) => difference.failure(&[table, record]),
     };
@@ -64,8 +66,9 @@ From top to bottom it shows
   the ticks         a row for each clock of the assertion, with a mark where it ticks
   the changes       a row for each rose(a) and fell(a), with an arrow where it is so
   the signals       a waveform each: all that have a name or that the assertion asks about
-  the implications  a row for each |->, by its left side, with a disc where that matched from a
-                    sample at which the |-> was reached, and a ring where it was only reached
+  the implications  a row for each |->, |=>, #-# and #=#, by its left side, with a disc where its
+                    right side was asked from a sample at which it was reached, and a ring where it
+                    was only reached
   the levels        the level at the start and after each sample, as a bar with its digit
   the legend        what the bars and the marks mean
 

@@ -1,4 +1,5 @@
 //! `kit show`: a table or a record, as text.
+mod expanded;
 mod form;
 mod nodes;
 mod record;
@@ -9,11 +10,10 @@ use crate::assertion::Assertion;
 use crate::console::Console;
 use crate::failure::{Failure, Outcome, DONE, REFUSED};
 use crate::files;
-use crate::names::Names;
 use crate::notation;
 use crate::options::{Options, Spec};
 use crate::refusals;
-use crate::source;
+use crate::source::{self, Source};
 use std::path::Path;
 
 /// The command.
@@ -22,18 +22,18 @@ pub const COMMAND: Command = Command {
     help: HELP,
     spec: Spec {
         values: &["--names"],
-        flags: &["--nodes"],
+        flags: &["--nodes", "--expanded"],
     },
     run,
 };
 
 const HELP: &str = "\
-kit show TABLE|RECORD [--names FILE.txt] [--nodes]
+kit show TABLE|RECORD [--names FILE.txt] [--nodes] [--expanded]
 
 Writes the assertion of a table in the kit's notation to standard output. The text can be read
 again: kit table makes a table of it that has the same verdict on every record. Booleans that
-nothing uses are left out, and equal ones become one. A comment tells where a table has version 2
-and no rose or fell needs it, since kit table then writes version 1.
+nothing uses are left out, and equal ones become one. A comment tells where a table has a later
+version than its operators need, since kit table then writes an earlier one.
 
 Of a record it writes a line for each sample: its number, the 64 signals as one number, of which
 bit 3 is signal 3, and the names of the signals that are 1, or - where none is.
@@ -45,8 +45,10 @@ refused node the nodes up to it and two more. A refused record is shown so too.
   RECORD            a file whose name ends in .svw
   --names FILE.txt  a text that declares the signals' names, for a .svt or a .svw; without it signal
                     3 is s3
-  --nodes           the version and the nodes instead of the text: number, operator, x, y, and the
-                    part of the assertion that the node stands for
+  --nodes           the version and the nodes instead of the text: number, operator, x, y, the
+                    fourth byte where it is not 0, and the part of the assertion that the node
+                    stands for
+  --expanded        the table with its derived operators written out, as the judge reads it
 
 Examples:
 
@@ -72,14 +74,25 @@ fn run(options: &Options, console: &mut Console) -> Outcome {
         return run_record(path, names, options, console);
     }
     let source = source::table(path, names)?;
-    let (table, names) = (&source.table, &source.names);
-    let shown = match Assertion::of_table(table) {
+    let expanded = options.flag("--expanded");
+    let given = match expanded {
+        true => expanded::of(&source),
+        false => Ok(source.clone()),
+    };
+    let given = given.and_then(|given| {
+        let assertion = Assertion::of_table(&given.table)?;
+        Ok((given, assertion))
+    });
+    let shown = match given {
         Err(refusal) => {
-            console.say(&refused::report(table, names, refusal))?;
+            console.say(&refused::report(&source, refusal))?;
             return Ok(REFUSED);
         }
-        Ok(assertion) if options.flag("--nodes") => nodes::accepted(table, &assertion, names),
-        Ok(assertion) => text(table, &assertion, names),
+        Ok((given, assertion)) if options.flag("--nodes") => {
+            nodes::accepted(&given.table, &assertion, &given.names)
+        }
+        Ok((given, assertion)) if expanded => expanded::text(&assertion, &given.names),
+        Ok((given, assertion)) => text(&given, &assertion),
     };
     console.say(&shown)?;
     Ok(DONE)
@@ -91,9 +104,12 @@ fn run_record(
     options: &Options,
     console: &mut Console,
 ) -> Outcome {
-    if options.flag("--nodes") {
-        let words = "--nodes goes with a table: a record has samples and no nodes";
-        return Err(Failure::Usage(words.to_string()));
+    if let Some(flag) = ["--nodes", "--expanded"]
+        .into_iter()
+        .find(|flag| options.flag(flag))
+    {
+        let words = format!("{flag} goes with a table: a record has samples and no nodes");
+        return Err(Failure::Usage(words));
     }
     let bytes = files::read(path)?;
     let names = names.map(source::declared).transpose()?.unwrap_or_default();
@@ -106,9 +122,9 @@ fn run_record(
 }
 
 /// The text, after comments that say what the judge refuses in it, and which version is not kept.
-fn text(table: &[u8], assertion: &Assertion, names: &Names) -> String {
+fn text(source: &Source, assertion: &Assertion) -> String {
     let mut text = String::new();
-    let (given, needed) = (form::version(table), assertion.tidy().version());
+    let (given, needed) = (form::version(&source.table), assertion.tidy().version());
     if given != needed {
         text.push_str(&format!(
             "// the table has version {given}, and kit table writes this text as version {needed}: \
@@ -118,8 +134,8 @@ fn text(table: &[u8], assertion: &Assertion, names: &Names) -> String {
     if let Some(words) = refusals::sequence(assertion) {
         text.push_str(&format!("// a sequence: {words}\n"));
     }
-    if let Some(words) = refusals::too_large(table) {
+    if let Some(words) = refusals::too_large(source) {
         text.push_str(&format!("// {words}\n"));
     }
-    text + &notation::write(assertion, names)
+    text + &notation::write(assertion, &source.names)
 }

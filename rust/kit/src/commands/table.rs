@@ -8,7 +8,8 @@ use crate::notation::{self, Text};
 use crate::once;
 use crate::options::{Options, Spec};
 use crate::refusals::{self, HOLLOW};
-use crate::source;
+use crate::sizes::{self, Sizes};
+use crate::source::{self, Source};
 use crate::words;
 use std::path::Path;
 use xistomar::Refusal;
@@ -37,13 +38,22 @@ signals of a sample by their numbers, 0 to 63, and then says the assertion:
 The operators, tightest first, what a signal does, and what makes a property of a sequence:
 
   R[*0]   R[*1:$]       nothing at all; R once or more
+  R[*3]   R[*2:5]       R three times in a row; two to five times
+  b[->2]   b[=2]        up to the second sample with b; any stretch with two of them
   !b   b & c   b | c    not, and, or; 0 and 1 are constants
   R ##1 S   R ##0 S     R and then S; R and S that share one sample
-  not P   nexttime P    P does not hold; P holds from the next sample on
+  R ##3 S   R ##[1:4] S S begins three samples after R ends; one to four samples after
+  not P                 P does not hold
+  nexttime P            P holds from the next sample on, if there is one
+  s_nexttime P          the same, and there has to be one
   P and Q
   R or S   P or Q
   P until Q             P at each sample before one with Q, or at every sample
-  R |-> P               wherever R ends, P holds from its last sample on
+  P s_until Q           the same, and Q has to come
+  R |-> P   R |=> P     wherever R ends, P holds from its last sample on; from the next one on
+  R #-# P   R #=# P     somewhere R ends, and P holds from its last sample on; from the next one on
+  always P              P at every sample
+  s_eventually P        P at some sample
   @(c) X                X, seen only at the samples where c is 1
 
   rose(a)   fell(a)     signal a has risen, has fallen, since the sample before; before sample 0
@@ -56,12 +66,16 @@ Here a is a signal, b and c are booleans of one sample, R and S sequences, P and
 is one of the last two. Parentheses group. A line such as `let busy = a & !b` between the signals
 and the assertion gives a boolean a name. docs/NOTATION.md has the whole grammar.
 
-The table has version 1, or version 2 where rose or fell stands in it, and then the first line says
-so: benches that know version 1 alone refuse it with number 3.
+The table has version 1, version 2 where rose or fell stands in it, or version 3 where one of these
+does: [*m], [*m:n], [->m], [=m], ##m and ##[m:n] but for ##0 and ##1, |=>, #-#, #=#, always,
+s_eventually, s_until, s_nexttime. The first line says so where it is not 1: benches that know
+earlier versions alone refuse it with number 3. Version 3 is written out to the other operators
+before it is judged, to at most 120 nodes. The first line says to how many, and a warning which
+part is to be shortened where they are more. m and n are at most 15.
 
 An assertion is asked at the first sample only, where SystemVerilog's `assert property` asks at
-every tick: `P until strong(0)` asks P at every sample, since no sample satisfies 0. Where something
-has no until above it, that is said, with what to write to ask it at every sample.
+every tick: `always P` asks P at every sample. Where something has no always or until above it, that
+is said, with what to write to ask it at every sample.
 
   -o FILE.svt       where the table goes
   --once            what is asked at the first sample only is meant so, and no word is said of it
@@ -85,7 +99,7 @@ fn run(options: &Options, console: &mut Console) -> Outcome {
         return Err(Failure::Usage(words.to_string()));
     }
     let text = files::read_text(input)?;
-    if ["SVT\u{1}\0", "SVT\u{2}\0"]
+    if ["SVT\u{1}\0", "SVT\u{2}\0", "SVT\u{3}\0"]
         .iter()
         .any(|mark| text.starts_with(mark))
     {
@@ -101,8 +115,14 @@ fn run(options: &Options, console: &mut Console) -> Outcome {
     let whole = notation::phrase(&read.assertion, read.assertion.root(), &read.names);
     let note = once::note(&read.assertion, &read.names, options);
     console.say(&format!("{shown}: {summary}\nread as: {whole}\n{note}"))?;
-    if let Some(words) = refusals::too_large(&table) {
-        console.tell(&format!("kit table: warning: {shown}: {words}\n"));
+    let source = Source {
+        table,
+        names: read.names,
+    };
+    if let Some(words) = refusals::too_large(&source) {
+        let parts = sizes::past(&source.table, &source.names);
+        let parts = parts.map(|(_, lines)| lines).unwrap_or_default();
+        console.tell(&format!("kit table: warning: {shown}: {words}\n{parts}"));
     }
     Ok(DONE)
 }
@@ -115,9 +135,14 @@ fn refused(path: &Path, read: &Text, refusal: Refusal) -> Failure {
     Failure::Refused(format!("{}\n  {part}\n{HOLLOW}", failure.words()))
 }
 
-/// `15 nodes, 3 signals, a property`, after the version where it is not 1.
+/// `15 nodes, 3 signals, a property`, after the version where it is not 1, and with the nodes that derived
+/// operators are written out to.
 fn summary(assertion: &Assertion) -> String {
-    let nodes = words::count(assertion.nodes().len(), "node");
+    let mut nodes = words::count(assertion.nodes().len(), "node");
+    let sizes = Sizes::of(assertion);
+    if assertion.version() == 3 && !sizes.past() {
+        nodes = format!("{nodes}, {} written out", sizes.all);
+    }
     let signals = words::count(assertion.signals().len(), "signal");
     let kind = match refusals::sequence(assertion) {
         Some(words) => format!("a sequence: {words}"),

@@ -14,7 +14,8 @@ use crate::failure::Failure;
 use crate::options::Options;
 use xistomar::{Judge, Judgement, Refusal};
 
-/// The refusal that the fast engine alone gives: rewritten count over 120.
+/// The refusal that the fast engine alone gives where the rewritten count is over 120. Where the expanded count is, the
+/// plain one gives it too.
 const PAST: u8 = 13;
 
 /// Which engines judge.
@@ -99,6 +100,7 @@ impl Engines {
             {
                 engines.engine = Engine::Plain;
                 engines.past = Some(refusal);
+                engines.judge(table, &[])?;
                 Ok(engines)
             }
             Err(unjudged) => Err(unjudged),

@@ -1,4 +1,5 @@
 //! What people write who know SystemVerilog or another language, and what to write instead.
+use crate::assertion::Operator;
 use std::fmt;
 
 /// What to write instead.
@@ -34,34 +35,40 @@ pub fn of(text: &str) -> Option<Hint> {
     find(&FOREIGN, text)
 }
 
-/// The hint for what stands between `[` and `]` after a sequence, without blanks. `*0` and `*1:$`
-/// need none.
+/// The hint for what stands between `[` and `]` after a part, without blanks, where it is no repetition
+/// of the notation.
 pub fn repetition(inside: &str) -> Hint {
-    let numbers = |text: &str| text.bytes().all(|byte| byte.is_ascii_digit());
-    let bounds = inside
-        .strip_prefix('*')
-        .map(|bounds| bounds.split_once(':'));
-    find(&REPETITIONS, inside).unwrap_or(match bounds {
-        _ if inside.starts_with("->") => GOTO,
-        _ if inside.starts_with('=') => NONCONSECUTIVE,
-        None => BIT,
-        Some(Some((least, "$"))) if numbers(least) => Written("R[*2:$]", "(R ##1 R[*1:$])"),
-        Some(Some((least, most))) if numbers(least) && numbers(most) => {
-            Written("R[*1:2]", "(R or R ##1 R)")
+    let endless = inside.ends_with(":$");
+    let counts = inside.contains(|c: char| c.is_ascii_digit());
+    find(&REPETITIONS, inside).unwrap_or(match inside.chars().next() {
+        Some('*') if endless && counts => Written("R[*2:$]", "(R ##1 R[*1:$])"),
+        Some('-') if endless => Written("b[->1:$]", "b[->1][*1:$]"),
+        Some('=') if endless => Written("b[=1:$]", "(b[->1][*1:$] ##1 b[=0])"),
+        Some('-') if counts => Written("b[->1:2]", "(b[->1] or b[->2])"),
+        Some('=') if counts => Written("b[=1:2]", "(b[=1] or b[=2])"),
+        Some('*' | '-' | '=') => {
+            Words("a repetition is written `R[*3]`, `R[*2:5]`, `b[->2]` or `b[=2]`")
         }
-        Some(None) if numbers(inside.trim_start_matches('*')) => Written("R[*2]", "(R ##1 R)"),
-        _ => Words("`R[*0]` or `R[*1:$]` was expected"),
+        _ => BIT,
     })
 }
 
-/// The hint for what follows `##`, without blanks. `1` and `0` need none.
+/// The hint for what follows `##`, without blanks, where it is no delay of the notation.
 pub fn delay(after: &str) -> Hint {
     find(&DELAYS, after).unwrap_or(match after {
         _ if after.ends_with(":$]") => Written("R ##[2:$] S", "(R ##1 1[*1:$] ##1 S)"),
-        _ if after.starts_with('[') => Written("R ##[1:2] S", "((R ##1 S) or (R ##1 1 ##1 S))"),
-        _ if after.starts_with(|c: char| c.is_ascii_digit()) => Written("R ##2 S", "R ##1 1 ##1 S"),
-        _ => Words("## is followed by 1 or 0, as in `R ##1 S`"),
+        _ => Words("a delay is written `R ##3 S` or `R ##[1:4] S`"),
     })
+}
+
+/// The hint for a number in brackets after a word that stands before a property.
+pub fn counted(operator: Operator) -> Option<Hint> {
+    match operator {
+        Operator::Nexttime => Some(COUNTED_NEXT),
+        Operator::StrongNexttime => Some(COUNTED_STRONG_NEXT),
+        Operator::Always | Operator::Eventually => Some(RANGED),
+        _ => None,
+    }
 }
 
 /// The signs that are not part of the notation and have a hint.
@@ -80,13 +87,11 @@ const FUNCTION: Hint = Words(
      stand without $",
 );
 const BIT: Hint = Words(
-    "`R[*0]` or `R[*1:$]` was expected: a signal has one bit, so each bit of a bus is a signal of \
-     its own",
+    "a repetition such as `R[*3]` was expected: a signal has one bit, so each bit of a bus is a signal \
+     of its own",
 );
-const GOTO: Hint = Written("b[->1]", "(((!b)[*0] or (!b)[*1:$]) ##1 b)");
-const NONCONSECUTIVE: Hint = Written(
-    "b[=1]",
-    "(((!b)[*0] or (!b)[*1:$]) ##1 b ##1 ((!b)[*0] or (!b)[*1:$]))",
+const RANGED: Hint = Words(
+    "always and s_eventually have no range here: `nexttime P` and `s_nexttime P` go one sample on",
 );
 const EQUAL: Hint = Noted(
     "a == b",
@@ -94,14 +99,14 @@ const EQUAL: Hint = Noted(
     "; for `a == 1` write `a`, and for `a == 0` write `!a`",
 );
 const UNEQUAL: Hint = Written("a != b", "(((a) & !(b)) | (!(a) & (b)))");
-const IMPLICATION: Hint = Words("the implication is written |->");
+const IMPLICATION: Hint = Words("the implication is written |->, or |=> for the next sample");
 const SIZE: Hint = Words("a signal is 0 or 1, and is not compared by size");
 const NUMBERS: Hint = Words("a signal is 0 or 1: there is nothing to count with here");
 const COMMENT: Hint = Words("comments begin with // and reach to the end of the line");
 const GROUP: Hint = Words("parts are held together by ( and )");
 const SET_UP: Hint = Words(
     "the assertion stands alone, without `assert property (..);` or a name around it, and is asked at \
-     the first sample only: `P until strong(0)` asks P at every one",
+     the first sample only: `always P` asks P at every one",
 );
 const RESET: Hint = Words("resets are not part of the notation: take them out of the record");
 const ABSENT: Hint =
@@ -123,18 +128,17 @@ const JOINED: Hint = Words(
      where both stand",
 );
 const DECLARE: Hint = Words("signals are declared in lines that begin with the word signals");
-const EVENTUALLY: Hint = Written("s_eventually P", "not (not (P) until strong(0))");
+const EVENTUALLY: Hint = Words("that P comes is said by `s_eventually P`");
 
 /// The hint for a `##` with nothing before it.
 pub const LEADING_DELAY: Hint = Written("##1 R", "1 ##1 R");
 /// The hint for a number after `nexttime`.
 pub const COUNTED_NEXT: Hint = Written("nexttime[2] P", "nexttime nexttime (P)");
+/// The hint for a number after `s_nexttime`.
+pub const COUNTED_STRONG_NEXT: Hint = Written("s_nexttime[2] P", "s_nexttime s_nexttime (P)");
 
 /// Words and signs, each with its hint.
-pub const FOREIGN: [(&str, Hint); 81] = [
-    ("|=>", Written("R |=> P", "(R) ##1 1 |-> P")),
-    ("#-#", Written("R #-# P", "not (R |-> not (P))")),
-    ("#=#", Written("R #=# P", "not ((R) ##1 1 |-> not (P))")),
+pub const FOREIGN: [(&str, Hint); 74] = [
     ("=>", IMPLICATION),
     ("==>", IMPLICATION),
     ("-->", IMPLICATION),
@@ -173,7 +177,7 @@ pub const FOREIGN: [(&str, Hint); 81] = [
     ("%", NUMBERS),
     (
         "#",
-        Words("comments begin with //, and delays are written ##1 and ##0"),
+        Words("comments begin with //, and delays are written ##1 and ##[1:3]"),
     ),
     ("/*", COMMENT),
     ("/", COMMENT),
@@ -186,33 +190,17 @@ pub const FOREIGN: [(&str, Hint); 81] = [
     ("}", GROUP),
     ("true", Words("the constants are 1 and 0")),
     ("false", Words("the constants are 1 and 0")),
-    ("always", Written("always P", "((P) until strong(0))")),
     ("s_always", ABSENT),
-    ("never", Written("never P", "(not (P) until strong(0))")),
-    ("s_eventually", EVENTUALLY),
+    ("never", Written("never P", "always not (P)")),
     ("eventually", EVENTUALLY),
     ("next", Words("the next sample is asked by `nexttime P`")),
-    (
-        "s_nexttime",
-        Written("s_nexttime P", "not nexttime not (P)"),
-    ),
-    (
-        "s_until",
-        Written(
-            "P s_until Q",
-            "((P) until (Q)) and not (not (Q) until strong(0))",
-        ),
-    ),
     (
         "until_with",
         Written("P until_with Q", "(P) until ((P) and (Q))"),
     ),
     (
         "s_until_with",
-        Written(
-            "P s_until_with Q",
-            "((P) until ((P) and (Q))) and not (not ((P) and (Q)) until strong(0))",
-        ),
+        Written("P s_until_with Q", "(P) s_until ((P) and (Q))"),
     ),
     ("implies", Written("P implies Q", "(not (P)) or (Q)")),
     (
@@ -280,18 +268,14 @@ pub const FUNCTIONS: [(&str, Hint); 5] = [
 ];
 
 /// What may stand between `[` and `]`.
-const REPETITIONS: [(&str, Hint); 6] = [
+const REPETITIONS: [(&str, Hint); 3] = [
     ("+", Written("R[+]", "R[*1:$]")),
     ("*", Written("R[*]", "(R[*0] or R[*1:$])")),
     ("*0:$", Written("R[*0:$]", "(R[*0] or R[*1:$])")),
-    ("*1", Written("R[*1]", "R")),
-    ("*0:1", Written("R[*0:1]", "(R[*0] or R)")),
-    ("*0:0", Written("R[*0:0]", "R[*0]")),
 ];
 
 /// What may follow `##`.
-const DELAYS: [(&str, Hint); 6] = [
-    ("[0:1]", Written("R ##[0:1] S", "((R ##0 S) or (R ##1 S))")),
+const DELAYS: [(&str, Hint); 5] = [
     ("[1:$]", LATER),
     ("[+]", LATER),
     ("[0:$]", NOW_OR_LATER),

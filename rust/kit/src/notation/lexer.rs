@@ -54,8 +54,9 @@ impl Token<'_> {
 }
 
 /// The signs of the notation.
-const SIGNS: [&str; 15] = [
-    "|->", "##", "(", ")", "[", "]", "*", ":", "$", "!", "&", "|", "@", "=", ",",
+const SIGNS: [&str; 18] = [
+    "|->", "|=>", "#-#", "#=#", "##", "(", ")", "[", "]", "*", ":", "$", "!", "&", "|", "@", "=",
+    ",",
 ];
 
 /// Reads a text token by token, so that no more is kept of it than needed.

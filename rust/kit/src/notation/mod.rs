@@ -1,5 +1,6 @@
 //! Assertions as text: a small notation for exactly the operators of documents 01 and 02.
 //! docs/NOTATION.md has its grammar.
+mod counts;
 mod declarations;
 mod edges;
 mod hints;
@@ -19,8 +20,22 @@ use parser::Parser;
 pub use sorts::called;
 
 /// The words that cannot name a signal.
-pub const RESERVED: [&str; 11] = [
-    "signals", "let", "strong", "weak", "not", "nexttime", "and", "or", "until", "rose", "fell",
+pub const RESERVED: [&str; 15] = [
+    "signals",
+    "let",
+    "strong",
+    "weak",
+    "not",
+    "nexttime",
+    "s_nexttime",
+    "always",
+    "s_eventually",
+    "and",
+    "or",
+    "until",
+    "s_until",
+    "rose",
+    "fell",
 ];
 
 /// A text that was read: the signals that it declares, and its assertion.

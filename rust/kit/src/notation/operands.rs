@@ -9,6 +9,17 @@ use super::RESERVED;
 use crate::assertion::{Operator, Sort};
 use crate::words::shortened;
 
+/// The signs and words that stand before one part: their operator, and how tightly what follows must
+/// bind. always and s_eventually reach as far right as they can.
+const UNARY: [(&str, Operator, u8); 6] = [
+    ("!", Operator::Not, NEGATION),
+    ("not", Operator::PropertyNot, PREFIX),
+    ("nexttime", Operator::Nexttime, PREFIX),
+    ("s_nexttime", Operator::StrongNexttime, PREFIX),
+    ("always", Operator::Always, CLOCK),
+    ("s_eventually", Operator::Eventually, CLOCK),
+];
+
 /// What is wanted at a place, for messages. Where a sequence is wanted, no property is ever right.
 #[derive(Clone, Copy, PartialEq, Eq)]
 pub enum Wanted {
@@ -84,28 +95,26 @@ impl Parser<'_> {
     }
 
     fn operand(&mut self, wanted: Wanted) -> Result<Part, Mistake> {
-        match self.peek().text {
-            "not" | "nexttime" if wanted == Wanted::Sort(Sort::Sequence) => {
-                Err(self.no_sequence(self.peek()))
+        let token = self.peek();
+        if let Some(&(_, operator, level)) = UNARY.iter().find(|row| row.0 == token.text) {
+            if operator.sort() == Sort::Property && wanted == Wanted::Sort(Sort::Sequence) {
+                return Err(self.no_sequence(token));
             }
-            "!" => self.prefix(Operator::Not, NEGATION),
-            "not" => self.prefix(Operator::PropertyNot, PREFIX),
-            "nexttime" => self.prefix(Operator::Nexttime, PREFIX),
-            "@" => self.clock(wanted.either()),
-            _ => {
-                let primary = self.primary(wanted)?;
-                self.repeated(primary)
-            }
+            return self.prefix(operator, level);
         }
+        if token.text == "@" {
+            return self.clock(wanted.either());
+        }
+        let primary = self.primary(wanted)?;
+        self.repeated(primary)
     }
 
     fn prefix(&mut self, operator: Operator, level: u8) -> Result<Part, Mistake> {
         let sign = self.take();
-        if operator == Operator::Nexttime && self.peek().text == "[" {
-            let words = hints::COUNTED_NEXT.to_string();
-            return Err(self.mistake(self.peek().start, words));
+        if let (Some(hint), "[") = (hints::counted(operator), self.peek().text) {
+            return Err(self.mistake(self.peek().start, hint.to_string()));
         }
-        // `!` makes a boolean of one, `not` and `nexttime` a property
+        // `!` makes a boolean of one, the others a property
         let operand = self.part(level, Wanted::Sort(operator.sort()))?;
         let x = self.operand_of(operator, 0, operand, sign.start)?;
         self.built(operator, x, 0, sign.start)

@@ -1,7 +1,8 @@
 //! Reading what joins two parts, and repetitions.
-use super::hints;
+use super::counts::{self, Counted};
+use super::hints::{self, Hint};
 use super::levels::{AND, BOTH, DELAY, EITHER, IMPLIES, OR, UNTIL};
-use super::lexer::{Kind, Token};
+use super::lexer::{Kind, Place, Token};
 use super::mistake::Mistake;
 use super::operands::Wanted;
 use super::parser::Parser;
@@ -13,14 +14,18 @@ const INSIDE: usize = 6;
 
 /// The signs and words that join two parts: their level, whether they are read from right to left,
 /// and their operator. `##` and `or` may turn out to be another.
-const JOINING: [(&str, u8, bool, Operator); 7] = [
+const JOINING: [(&str, u8, bool, Operator); 11] = [
     ("&", BOTH, false, Operator::And),
     ("|", EITHER, false, Operator::Or),
     ("##", DELAY, false, Operator::Then),
     ("and", AND, false, Operator::PropertyAnd),
     ("or", OR, false, Operator::PropertyOr),
     ("until", UNTIL, true, Operator::Until),
+    ("s_until", UNTIL, true, Operator::StrongUntil),
     ("|->", IMPLIES, true, Operator::Implies),
+    ("|=>", IMPLIES, true, Operator::ImpliesNext),
+    ("#-#", IMPLIES, true, Operator::Followed),
+    ("#=#", IMPLIES, true, Operator::FollowedNext),
 ];
 
 impl Parser<'_> {
@@ -40,9 +45,9 @@ impl Parser<'_> {
             return Err(self.no_sequence(self.peek()));
         }
         let sign = self.take();
-        let operator = match operator {
+        let (operator, fourth) = match operator {
             Operator::Then => self.delay(sign)?,
-            other => other,
+            other => (other, 0),
         };
         let wanted = match operator {
             Operator::PropertyOr => whole.either(),
@@ -52,12 +57,12 @@ impl Parser<'_> {
             },
         };
         let right = self.part(level + u8::from(!from_right), wanted)?;
-        self.joined(operator, left, right, sign).map(Some)
+        self.joined((operator, fourth), left, right, sign).map(Some)
     }
 
     fn joined(
         &mut self,
-        operator: Operator,
+        (operator, fourth): Counted,
         left: Part,
         right: Part,
         sign: Token,
@@ -69,7 +74,7 @@ impl Parser<'_> {
         };
         let x = self.operand_of(operator, 0, left, left.start)?;
         let y = self.operand_of(operator, 1, right, left.start)?;
-        let index = self.node(operator, x, y, sign.start)?;
+        let index = self.counted((operator, fourth), x, y, sign.start)?;
         Ok(Part {
             index,
             sort: operator.sort(),
@@ -79,18 +84,15 @@ impl Parser<'_> {
         })
     }
 
-    /// What follows `##`: 1 or 0.
-    fn delay(&mut self, sign: Token) -> Result<Operator, Mistake> {
+    /// What follows `##`: a number, or two in brackets.
+    fn delay(&mut self, sign: Token) -> Result<Counted, Mistake> {
         let after = match self.peek() {
             token if token.text == "[" => format!("[{}]", self.inside()?),
             token if token.kind == Kind::Number => self.take().text.to_string(),
             _ => String::new(),
         };
-        match after.as_str() {
-            "1" => Ok(Operator::Then),
-            "0" => Ok(Operator::Fused),
-            _ => Err(self.mistake(sign.start, hints::delay(&after).to_string())),
-        }
+        let found = counts::delay(&after);
+        self.good(found, sign.start, || hints::delay(&after))
     }
 
     /// The repetitions after a part.
@@ -98,22 +100,32 @@ impl Parser<'_> {
         while self.peek().text == "[" {
             let bracket = self.peek().start;
             let inside = self.inside()?;
-            let operator = match inside.as_str() {
-                "*0" => Operator::Empty,
-                "*1:$" => Operator::Repeated,
-                _ => {
-                    let words = hints::repetition(&inside).to_string();
-                    return Err(self.mistake(bracket, words));
-                }
-            };
-            let x = self.operand_of(operator, 0, part, part.start)?;
-            let built = self.built(operator, x, 0, part.start)?;
+            let found = counts::repetition(&inside);
+            let counted = self.good(found, bracket, || hints::repetition(&inside))?;
+            let x = self.operand_of(counted.0, 0, part, part.start)?;
+            let built = self.built_counted(counted, x, 0, part.start)?;
             part = Part {
                 bracket: part.bracket.or(Some(bracket.offset)),
                 ..built
             };
         }
         Ok(part)
+    }
+
+    /// An operator with good numbers, or the mistake at a place: what is wrong with them, or the hint for
+    /// a form that is not part of the notation.
+    fn good(
+        &self,
+        found: Result<Option<Counted>, String>,
+        place: Place,
+        hint: impl Fn() -> Hint,
+    ) -> Result<Counted, Mistake> {
+        let words = match found {
+            Ok(Some(counted)) => return Ok(counted),
+            Ok(None) => hint().to_string(),
+            Err(words) => words,
+        };
+        Err(self.mistake(place, words))
     }
 
     /// Takes `[`, what is inside, and `]`; answers the inside without blanks.
@@ -129,7 +141,7 @@ impl Parser<'_> {
             inside.push_str(self.take().text);
         }
         if self.peek().text != "]" {
-            return Err(self.unexpected("a closing ] after [*0 or [*1:$"));
+            return Err(self.unexpected("a closing ] after a repetition or a delay"));
         }
         self.take();
         Ok(inside)

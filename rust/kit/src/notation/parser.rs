@@ -14,7 +14,17 @@ use std::collections::BTreeMap;
 const DEEPEST: usize = 400;
 
 /// The words of the notation that begin a part.
-pub const PREFIXES: [&str; 6] = ["not", "nexttime", "strong", "weak", "rose", "fell"];
+pub const PREFIXES: [&str; 9] = [
+    "not",
+    "nexttime",
+    "s_nexttime",
+    "always",
+    "s_eventually",
+    "strong",
+    "weak",
+    "rose",
+    "fell",
+];
 
 /// A text that is being read, with one token looked at ahead.
 pub struct Parser<'a> {
@@ -70,7 +80,18 @@ impl<'a> Parser<'a> {
         y: usize,
         start: Place,
     ) -> Result<Part, Mistake> {
-        let index = self.node(operator, x, y, start)?;
+        self.built_counted((operator, 0), x, y, start)
+    }
+
+    /// The same for an operator with its fourth byte.
+    pub fn built_counted(
+        &mut self,
+        (operator, fourth): (Operator, u8),
+        x: usize,
+        y: usize,
+        start: Place,
+    ) -> Result<Part, Mistake> {
+        let index = self.counted((operator, fourth), x, y, start)?;
         Ok(Part {
             index,
             sort: operator.sort(),
@@ -88,7 +109,18 @@ impl<'a> Parser<'a> {
         y: usize,
         place: Place,
     ) -> Result<usize, Mistake> {
-        let node = self.builder.add(operator, x, y);
+        self.counted((operator, 0), x, y, place)
+    }
+
+    /// Adds a node with its fourth byte.
+    pub fn counted(
+        &mut self,
+        (operator, fourth): (Operator, u8),
+        x: usize,
+        y: usize,
+        place: Place,
+    ) -> Result<usize, Mistake> {
+        let node = self.builder.add_counted(operator, x, y, fourth);
         node.ok_or_else(|| self.mistake(place, too_large()))
     }
 
@@ -230,7 +262,7 @@ impl<'a> Parser<'a> {
     pub fn unexpected(&self, expected: &str) -> Mistake {
         let token = self.peek();
         let (unknown, stands) = (!self.knows(token.text), shortened(token.text));
-        let operators = ["and", "or", "until"].into_iter();
+        let operators = ["and", "or", "until", "s_until"].into_iter();
         let near = names::nearest(&token.text.to_lowercase(), operators);
         let words = match (token.kind, hints::of(token.text), near) {
             (_, Some(hint), _) if unknown => hint.to_string(),

@@ -8,6 +8,9 @@ use crate::assertion::{Operator, Sort};
 /// The characters of a text's part that a message repeats, at most.
 const REPEATED: usize = 40;
 
+/// The signs of implications.
+const IMPLICATIONS: [&str; 4] = ["|->", "|=>", "#-#", "#=#"];
+
 /// A part that was read: its node, and where it stands in the text.
 #[derive(Clone, Copy, Debug)]
 pub struct Part {
@@ -51,6 +54,9 @@ impl Parser<'_> {
             (_, due) => {
                 let last = place + 1 == operator.operands().len();
                 let hint = match due {
+                    Sort::Boolean if operator.is_derived() => {
+                        ": b[->m] and b[=m] count samples that satisfy a boolean".to_string()
+                    }
                     Sort::Boolean if last && part.bracket.is_some() => {
                         self.repetition_hint(part, from)
                     }
@@ -122,7 +128,7 @@ impl Parser<'_> {
 
     /// What to write where a property is due and something else stands.
     fn property_hint(&self, operator: Operator, part: Part, last: bool) -> &'static str {
-        let implication = last && self.peek().text == "|->";
+        let implication = last && IMPLICATIONS.contains(&self.peek().text);
         match (operator, part.sort) {
             (Operator::PropertyNot, Sort::Boolean) if implication => {
                 ": write ! to turn a boolean round, or parentheses around the implication"

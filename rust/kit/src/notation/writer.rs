@@ -1,4 +1,6 @@
 //! Writing an assertion, with no more parentheses than the notation needs or a reader wants.
+mod derived;
+
 use super::levels::{
     AND, BOTH, CLOCK, DELAY, EITHER, IMPLIES, NEGATION, OR, PREFIX, PRIMARY, REPETITION, UNTIL,
 };
@@ -141,10 +143,10 @@ impl Texts {
             Operator::Repeated => at(REPETITION, format!("{}[*1:$]", first(REPETITION))),
             Operator::PropertyNot => at(PREFIX, format!("not {}", first(PREFIX))),
             Operator::Nexttime => at(PREFIX, format!("nexttime {}", first(PREFIX))),
-            Operator::ClockedSequence | Operator::ClockedProperty => {
-                let operand = self.operand(node.y, self.clocked(node));
-                at(CLOCK, format!("@({}) {operand}", first(CLOCK)))
-            }
+            Operator::ClockedSequence | Operator::ClockedProperty => at(
+                CLOCK,
+                format!("@({}) {}", first(CLOCK), self.reached(node.y, nodes)),
+            ),
             Operator::And => self.joined(node, "&", BOTH, [BOTH, BOTH + 1]),
             Operator::Or => self.joined(node, "|", EITHER, [EITHER, EITHER + 1]),
             Operator::Then => self.joined(node, "##1", DELAY, [DELAY, DELAY + 1]),
@@ -156,32 +158,46 @@ impl Texts {
             Operator::PropertyAnd => {
                 self.joined(node, "and", AND, [self.left(node, nodes, AND), AND + 1])
             }
-            // `P and Q until S` and `not P until Q` are easily misread, and so is `R |-> P until Q`
-            Operator::Until => self.joined(node, "until", UNTIL, [PRIMARY, PREFIX]),
-            Operator::Implies => {
-                let right = match self.0.get(usize::from(node.y)) {
-                    Some(right) if right.level == IMPLIES => IMPLIES,
-                    _ => OR,
-                };
-                self.joined(node, "|->", IMPLIES, [DELAY, right])
-            }
+            Operator::Until => self.until(node, "until"),
+            Operator::Implies => self.implication(node, "|->"),
+            _ => self.derived(node, nodes),
         }
+    }
+
+    /// `P and Q until S` and `not P until Q` are easily misread.
+    fn until(&self, node: Node, word: &str) -> Written {
+        self.joined(node, word, UNTIL, [PRIMARY, PREFIX])
+    }
+
+    /// `R |-> P until Q` is easily misread.
+    fn implication(&self, node: Node, sign: &str) -> Written {
+        let right = match self.0.get(usize::from(node.y)) {
+            Some(right) if right.level == IMPLIES => IMPLIES,
+            _ => OR,
+        };
+        self.joined(node, sign, IMPLIES, [DELAY, right])
     }
 
     /// The level due on the left of `and` and `or`. `nexttime P and Q` is easily misread.
     fn left(&self, node: Node, nodes: &[Node], level: u8) -> u8 {
+        let next = [Operator::Nexttime, Operator::StrongNexttime];
         match nodes.get(usize::from(node.x)) {
-            Some(left) if left.operator == Operator::Nexttime => PRIMARY,
+            Some(left) if next.contains(&left.operator) => PRIMARY,
             _ => level,
         }
     }
 
-    /// The level due after a clock. `@(c) P until Q` is easily misread.
-    fn clocked(&self, node: Node) -> u8 {
-        match self.0.get(usize::from(node.y)) {
+    /// What a clock, always or s_eventually reaches: `@(c) P until Q` is easily misread, and
+    /// `@(c) always P` is not.
+    fn reached(&self, index: u8, nodes: &[Node]) -> String {
+        let index_of = usize::from(index);
+        let operator = nodes.get(index_of).map(|node| node.operator);
+        let least = match self.0.get(index_of) {
+            _ if matches!(operator, Some(Operator::Always | Operator::Eventually)) => CLOCK,
             Some(operand) if operand.level == PREFIX => PREFIX,
             _ => NEGATION,
-        }
+        };
+        self.operand(index, least)
     }
 
     fn joined(&self, node: Node, sign: &str, level: u8, least: [u8; 2]) -> Written {

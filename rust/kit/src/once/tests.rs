@@ -26,58 +26,60 @@ fn parts(assertion: &str, every: &str, parts: &[&str], instead: &str) {
 }
 
 #[test]
-fn what_has_no_until_above_it_is_asked_once() {
-    whole("strong(a)", "sample", "strong(a) until strong(0)");
-    whole("a |-> weak(b)", "sample", "(a |-> weak(b)) until strong(0)");
-    whole("not weak(a)", "sample", "(not weak(a)) until strong(0)");
-    whole(
-        "nexttime strong(a)",
-        "sample",
-        "(nexttime strong(a)) until strong(0)",
-    );
+fn what_is_not_asked_again_is_asked_once() {
+    whole("strong(a)", "sample", "always strong(a)");
+    whole("a |-> weak(b)", "sample", "always (a |-> weak(b))");
+    whole("a |=> weak(b)", "sample", "always (a |=> weak(b))");
+    whole("a #-# weak(b)", "sample", "always (a #-# weak(b))");
+    whole("not weak(a)", "sample", "always not weak(a)");
+    whole("s_nexttime weak(a)", "sample", "always s_nexttime weak(a)");
+    whole("nexttime strong(a)", "sample", "always nexttime strong(a)");
     // an until below a |-> is asked where the |-> is
     whole(
         "a |-> (strong(b) until strong(0))",
         "sample",
-        "(a |-> (strong(b) until strong(0))) until strong(0)",
+        "always (a |-> (strong(b) until strong(0)))",
     );
     whole(
         "strong(a) and (b |-> weak(c))",
         "sample",
-        "(strong(a) and (b |-> weak(c))) until strong(0)",
+        "always (strong(a) and (b |-> weak(c)))",
     );
 }
 
 #[test]
-fn the_until_stands_below_the_clocks() {
+fn always_stands_below_the_clocks() {
     whole(
         "@(c) (a |-> strong(b))",
         "tick",
-        "@(c) ((a |-> strong(b)) until strong(0))",
+        "@(c) always (a |-> strong(b))",
     );
     whole(
         "@(c) @(d) strong(a)",
         "tick",
-        "@(c) (@(d) (strong(a) until strong(0)))",
+        "@(c) (@(d) always strong(a))",
     );
     parts(
         "(@(c) strong(a)) and (@(d) weak(b))",
         "tick",
         &["@(c) strong(a)", "@(d) weak(b)"],
-        "(@(c) (strong(a) until strong(0))) and (@(d) (weak(b) until strong(0)))",
+        "(@(c) always strong(a)) and (@(d) always weak(b))",
     );
     parts(
         "strong(a) and (@(d) weak(b))",
         "sample or tick",
         &["strong(a)", "@(d) weak(b)"],
-        "(strong(a) until strong(0)) and (@(d) (weak(b) until strong(0)))",
+        "(always strong(a)) and (@(d) always weak(b))",
     );
 }
 
 #[test]
-fn what_has_an_until_above_it_is_not_asked_once() {
+fn what_is_asked_again_is_not_asked_once() {
     for assertion in [
         "(a |-> strong(b)) until strong(0)",
+        "always (a |=> strong(b))",
+        "s_eventually strong(b)",
+        "nexttime (strong(a) s_until strong(b))",
         "@(c) ((a |-> strong(b)) until strong(d))",
         "not (strong(a) until weak(b))",
         "nexttime (strong(a) until weak(b))",
@@ -91,33 +93,33 @@ fn what_has_an_until_above_it_is_not_asked_once() {
 }
 
 #[test]
-fn a_part_is_named_where_the_rest_has_an_until() {
+fn a_part_is_named_where_the_rest_is_asked_again() {
     parts(
         "(a |-> strong(b)) and ((b |-> weak(c)) until strong(0))",
         "sample",
         &["a |-> strong(b)"],
-        "((a |-> strong(b)) until strong(0)) and ((b |-> weak(c)) until strong(0))",
+        "(always (a |-> strong(b))) and ((b |-> weak(c)) until strong(0))",
     );
     parts(
         "@(d) ((strong(a) until strong(b)) and weak(c) and strong(b))",
         "tick",
         &["@(d) weak(c)", "@(d) strong(b)"],
-        "@(d) ((strong(a) until strong(b)) and (weak(c) until strong(0)) and (strong(b) until strong(0)))",
+        "@(d) ((strong(a) until strong(b)) and (always weak(c)) and (always strong(b)))",
     );
 }
 
-/// `not` and `or` are asked as a whole: the until below them would ask something else.
+/// `not` and `or` are asked as a whole: an always below them would ask something else.
 #[test]
 fn what_is_no_and_is_not_divided() {
     whole(
         "strong(a) or (strong(b) until strong(c))",
         "sample",
-        "(strong(a) or (strong(b) until strong(c))) until strong(0)",
+        "always (strong(a) or (strong(b) until strong(c)))",
     );
     whole(
         "not (strong(a) and (strong(b) until strong(c)))",
         "sample",
-        "(not (strong(a) and (strong(b) until strong(c)))) until strong(0)",
+        "always not (strong(a) and (strong(b) until strong(c)))",
     );
 }
 
@@ -127,40 +129,46 @@ fn the_words_say_what_to_write() {
     assert_eq!(
         words("@(c) strong(a)"),
         "Asked once: the whole assertion, at the first sample only. To ask at every tick, write\n\
-         \x20 @(c) (strong(a) until strong(0))\n\
+         \x20 @(c) always strong(a)\n\
          or say with --once that once is meant.\n"
     );
     assert_eq!(
         words("strong(a) and (weak(b) until strong(0))"),
         "Asked once: strong(a), at the first sample only. To ask at every sample, write\n\
-         \x20 (strong(a) until strong(0)) and (weak(b) until strong(0))\n\
+         \x20 (always strong(a)) and (weak(b) until strong(0))\n\
          or say with --once that once is meant.\n"
     );
 }
 
 #[test]
 fn what_would_be_too_large_is_not_suggested() {
-    // k letters, k - 1 ##1 and strong are 2k nodes; a and `and` are two more, and until strong(0) four
+    // k letters, k - 1 ##1 and strong are 2k nodes; a and `and` are two more, and always one, which is written
+    // out to four
     let strong = |letters: usize| format!("strong({})", vec!["a"; letters].join(" ##1 "));
     let both = |letters| format!("{} and {}", strong(28), strong(letters));
     assert!(once(&both(29)).unwrap().instead.is_ok());
-    let large = once(&both(30)).unwrap();
+    let large = |letters| once(&both(letters)).unwrap().words();
     assert_eq!(
-        large.words(),
-        "Asked once: the whole assertion, at the first sample only. (..) until strong(0) around it asks at \
-         every sample, but then it has more than 120 nodes, and 120 is the most.\n\
+        large(30),
+        "Asked once: the whole assertion, at the first sample only. always (..) around it asks at every sample, \
+         but then no engine judges it: written out it has 122 nodes, and 120 is the most.\n\
+         Say with --once that once is meant.\n"
+    );
+    assert_eq!(
+        large(31),
+        "Asked once: the whole assertion, at the first sample only. always (..) around it asks at every sample, \
+         but then it has more than 120 nodes, and 120 is the most.\n\
          Say with --once that once is meant.\n"
     );
     // eleven letters under a clock, rewritten: 2 booleans, 99 nodes, 10 ##1 and strong are 112, and with
-    // 0, its letter, strong and until 132
+    // 0, its letter, weak and until 132
     let letters = ["a"; 11].join(" ##1 ");
     let clocked = once(&format!("@(c) strong({letters})")).unwrap();
     assert_eq!(
         clocked.words(),
-        "Asked once: the whole assertion, at the first sample only. (..) until strong(0) around it asks at \
-         every tick, but then the fast engine and the program refuse it with 13, rewritten count over 120: \
-         under a clock each letter counts 9 nodes, each nexttime 14 and each until 9; the plain engine judges \
-         it.\n\
+        "Asked once: the whole assertion, at the first sample only. always (..) around it asks at every tick, \
+         but then the fast engine and the program refuse it with 13, rewritten count over 120: under a clock \
+         each letter counts 9 nodes, each nexttime 14 and each until 9; the plain engine judges it.\n\
          Say with --once that once is meant.\n"
     );
 }
@@ -176,7 +184,7 @@ fn what_a_line_would_cut_is_not_suggested() {
     let once = Once::of(&assertion, &names).unwrap();
     assert_eq!(once.parts, ["strong(.. ##1 ..)"]);
     let words = once.words();
-    let end = "(..) until strong(0) around it asks at every sample, and the whole of it is too long to be \
+    let end = "always (..) around it asks at every sample, and the whole of it is too long to be \
                written here.\nSay with --once that once is meant.\n";
     assert!(words.ends_with(end), "{words}");
 }

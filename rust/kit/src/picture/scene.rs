@@ -123,7 +123,7 @@ fn row(implication: &Implication, samples: usize) -> ImplicationRow {
     let reached = implication.reached.iter().copied();
     let only = |at: &usize| *at < samples && !matched.contains(at);
     ImplicationRow {
-        name: format!("{left} |->"),
+        name: format!("{left} {}", implication.operator.sign()),
         matched: matched.clone(),
         reached: reached.filter(only).collect(),
         at_end: implication.reached.contains(&samples),

@@ -2,7 +2,7 @@
 use super::decisive::{decisive, Decisive};
 use super::implications::{implications, Implication};
 use super::{verdict, Judged, Verdict};
-use crate::assertion::{Assertion, Operator};
+use crate::assertion::{Assertion, Expanded, Operator};
 use crate::engine::{Engine, Engines, Unjudged};
 use crate::names::Names;
 use crate::notation::phrase;
@@ -22,7 +22,7 @@ pub struct Account {
     pub assertion: String,
     /// The signals that it asks about, with their names.
     pub signals: Vec<(u8, String)>,
-    /// Whether it has a `|->`.
+    /// Whether it has a `|->`, `|=>`, `#-#` or `#=#`.
     pub implies: bool,
     /// What it asks at the first sample only, if anything.
     pub once: Option<Once>,
@@ -33,7 +33,7 @@ pub struct Account {
 /// What explains a level.
 #[derive(Clone, Debug)]
 pub struct Explained {
-    /// The `|->` of the assertion, in the order of the table.
+    /// The implications of the assertion, in the order of the table.
     pub implications: Vec<Implication>,
     /// The decisive part.
     pub decisive: Decisive,
@@ -58,8 +58,9 @@ pub fn account(
     let explained = match engines.rows() {
         Some(_) => {
             let implications = implications(table, names, samples)?;
+            let expanded = Expanded::of(table)?;
             Some(explained(
-                &assertion,
+                &expanded,
                 names,
                 samples,
                 &verdict,
@@ -76,21 +77,22 @@ pub fn account(
         past: engines.past(),
         assertion: phrase(&assertion, assertion.root(), names),
         signals: signals.map(|signal| (signal, names.name(signal))).collect(),
-        implies: nodes.any(|node| node.operator == Operator::Implies),
+        implies: nodes.any(|node| node.operator.is_implication()),
         once: Once::of(&assertion, names),
         explained,
     })
 }
 
-/// What the fast engine's rows tell of an assertion that it accepts, and of its `|->`.
+/// What the fast engine's rows tell of an assertion that it accepts, and of its implications.
 fn explained(
-    assertion: &Assertion,
+    expanded: &Expanded,
     names: &Names,
     samples: &[u64],
     verdict: &Verdict,
     implications: Vec<Implication>,
 ) -> Result<Explained, Refusal> {
-    let decisive = decisive(assertion, samples, verdict)?;
+    let decisive = decisive(expanded, samples, verdict)?;
+    let assertion = expanded.given();
     let part = assertion.part(decisive.node);
     Ok(Explained {
         implications,

@@ -32,6 +32,9 @@
 //! | `R \|-> P` | P at the first match of R where it has L, else stop | P at the one match of R where it is not settled at 3, and R matches no more; else stop |
 //! | `strong(R)`, `weak(R)` | stop | stop |
 //!
+//! Derived operators are written out first (docs/BLOCKS.md), and the walk goes through what they are written
+//! out to. Where it ends inside of that, the part is the one with the derived operator.
+//!
 //! An assertion that is closed is explained on the samples up to that at which it closed. So these hold:
 //!
 //! - the decisive part has the assertion's level, or 3 minus it under an odd number of `not`s;
@@ -40,7 +43,7 @@
 //!   round under `not`): what breaks the part breaks the assertion.
 use super::asked::Asked;
 use super::Verdict;
-use crate::assertion::{Assertion, Operator};
+use crate::assertion::{Assertion, Expanded, Operator};
 use xistomar::{Level, Refusal};
 
 /// The decisive part.
@@ -58,16 +61,17 @@ pub struct Decisive {
     pub closed: Option<usize>,
     /// The first and the last sample of its match, for `strong` and `weak` that matched.
     pub matched: Option<(usize, usize)>,
-    /// Whether anything was asked of it: not of a `|->` whose left side does not match from there.
+    /// Whether anything was asked of it: not of an implication whose left side does not match from there.
     pub asked: bool,
 }
 
 /// Finds the decisive part of an assertion on the samples of its verdict.
 pub fn decisive(
-    assertion: &Assertion,
+    expanded: &Expanded,
     samples: &[u64],
     verdict: &Verdict,
 ) -> Result<Decisive, Refusal> {
+    let assertion = expanded.written();
     let closed = verdict.closed();
     let count = closed.map_or(samples.len(), |sample| sample + 1);
     let samples = samples.get(..count).unwrap_or(samples);
@@ -79,19 +83,35 @@ pub fn decisive(
         node: assertion.root(),
         from: 0,
     };
+    let mut given = walk.stand(expanded);
     while let Some((node, from)) = walk.step()? {
         (walk.node, walk.from) = (node, from);
+        given = walk.stand(expanded).or(given);
     }
+    let stand = given.unwrap_or_default();
+    (walk.node, walk.from) = (stand.written, stand.from);
     let level = walk.asked.level(walk.node, walk.from)?;
     Ok(Decisive {
-        node: walk.node,
-        from: walk.from,
+        node: stand.node,
+        from: stand.from,
         level,
-        turned: walk.side != side_of(verdict.judgement.level),
+        turned: stand.so_high != (side_of(verdict.judgement.level) == Side::SoHigh),
         closed,
         matched: walk.matched(level)?,
-        asked: walk.asks()?,
+        asked: walk.asks(expanded.implication(walk.node))?,
     })
+}
+
+/// A place of the walk that stands for a node of the table.
+#[derive(Clone, Copy, Default)]
+struct Stand {
+    /// The node of the table.
+    node: usize,
+    /// The node of the expansion.
+    written: usize,
+    from: usize,
+    /// Whether it was asked why the level is so high.
+    so_high: bool,
 }
 
 /// What is asked of a node.
@@ -125,6 +145,17 @@ struct Walk<'a> {
 }
 
 impl Walk<'_> {
+    /// Where the walk is, if that stands for a node of the table.
+    fn stand(&self, expanded: &Expanded) -> Option<Stand> {
+        let stand = |node| Stand {
+            node,
+            written: self.node,
+            from: self.from,
+            so_high: self.side == Side::SoHigh,
+        };
+        expanded.stands_for(self.node).map(stand)
+    }
+
     /// The operand that explains the node, if one alone does. Operands are below their node, so the
     /// walk ends.
     fn step(&mut self) -> Next {
@@ -271,11 +302,13 @@ impl Walk<'_> {
         Ok(ends.filter(|end| *end > from).map(|end| end - 1).collect())
     }
 
-    /// Whether the part where the walk ended asks anything.
-    fn asks(&mut self) -> Result<bool, Refusal> {
-        let node = self.assertion.node(self.node);
-        let implication = node.operator == Operator::Implies;
-        Ok(!implication || !self.last_samples(usize::from(node.x))?.is_empty())
+    /// Whether the part where the walk ended asks anything; `implication` is its `|->`, if it is one.
+    fn asks(&mut self, implication: Option<usize>) -> Result<bool, Refusal> {
+        let Some(implication) = implication else {
+            return Ok(true);
+        };
+        let left = usize::from(self.assertion.node(implication).x);
+        Ok(!self.last_samples(left)?.is_empty())
     }
 
     /// The shortest match of the part where the walk ended, for `strong` and `weak` at level 3.

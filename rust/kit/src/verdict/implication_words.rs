@@ -29,7 +29,11 @@ fn line(implication: &Implication, samples: usize) -> String {
     match implication.asked() {
         true => {
             let at = places(&implication.matched, samples);
-            format!("Asked: {part}, reached from {from}: its left side matched at {at}.\n")
+            let what = match implication.operator.asks_later() {
+                true => "its right side was asked",
+                false => "its left side matched",
+            };
+            format!("Asked: {part}, reached from {from}: {what} at {at}.\n")
         }
         false => format!(
             "Never asked: {part}, reached from {from}: its left side never matched from there.\n"

@@ -1,10 +1,12 @@
-//! The `|->` of an assertion: where a record reached each, and where its left side then matched.
+//! The implications of an assertion, `|->`, `|=>`, `#-#` and `#=#`: where a record reached each, and where
+//! its right side was then asked.
 use super::reached::Reaching;
+use crate::assertion::Operator;
 use crate::names::Names;
 use crate::notation;
 use xistomar::{Judge, Refusal};
 
-/// A `|->` of an assertion, on a record.
+/// An implication of an assertion, on a record.
 #[derive(Clone, Debug, PartialEq, Eq)]
 pub struct Implication {
     /// The node of the table.
@@ -15,8 +17,11 @@ pub struct Implication {
     pub left: String,
     /// The samples from which it was reached, and the number of samples where that was at the end.
     pub reached: Vec<usize>,
-    /// The last samples of the matches of its left side from there: there the right side was asked.
+    /// The samples at which the right side was asked: the last ones of the matches of its left side from
+    /// there, and of `|=>` and `#=#` the ones after.
     pub matched: Vec<usize>,
+    /// Its operator.
+    pub operator: Operator,
 }
 
 impl Implication {
@@ -26,7 +31,7 @@ impl Implication {
     }
 }
 
-/// Judges the samples by a table and lists the `|->` of its assertion, in the order of the table.
+/// Judges the samples by a table and lists the implications of its assertion, in the order of the table.
 pub fn implications(
     table: &[u8],
     names: &Names,
@@ -38,12 +43,13 @@ pub fn implications(
     let text = |node: usize| notation::part(assertion, node, names);
     let listed = reaching.implications().iter();
     Ok(listed
-        .map(|&(node, right)| Implication {
-            node,
-            part: text(node),
-            left: text(usize::from(assertion.node(node).x)),
-            reached: reached.samples(node),
-            matched: reached.samples(right),
+        .map(|asking| Implication {
+            node: asking.node,
+            part: text(asking.node),
+            left: text(usize::from(assertion.node(asking.node).x)),
+            reached: reached.reached(asking),
+            matched: reached.asked(asking),
+            operator: assertion.node(asking.node).operator,
         })
         .collect())
 }

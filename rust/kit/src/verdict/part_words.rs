@@ -54,24 +54,44 @@ fn what_words(explained: &Explained) -> String {
 /// What counts in a part of which no operand alone is decisive.
 fn counting(explained: &Explained, level: Level) -> &'static str {
     match (explained.operator, level) {
-        (Operator::Implies, Level::Strong) if !explained.decisive.asked => {
-            ", for its left side can no longer match from there: nothing was asked"
+        (Operator::Implies | Operator::ImpliesNext, _) => implying(explained, level),
+        (Operator::Followed | Operator::FollowedNext, _) => following(explained, level),
+        (Operator::Nexttime | Operator::StrongNexttime, _) => {
+            "; the sample that it asks about is still to come"
         }
-        (Operator::Implies, _) if !explained.decisive.asked => {
-            ", for its left side has not matched from there yet"
+        (Operator::Until | Operator::Always, Level::Neutral) => {
+            ", and what comes next may break it"
         }
-        (Operator::Implies, Level::Strong) => {
-            "; no match of its left side was broken, and none is still to come"
-        }
-        (Operator::Implies, Level::Neutral) => {
-            "; no match of its left side was broken, and one may still be"
-        }
-        (Operator::Implies, _) => "; every match of its left side counts",
-        (Operator::Nexttime, _) => "; the sample that it asks about is still to come",
-        (Operator::Until, Level::Neutral) => ", and what comes next may break it",
+        (Operator::Eventually, _) => ", for it has not come yet",
+        (Operator::StrongUntil, Level::Weak) => ", for its right side has not come yet",
         (Operator::PropertyOr, Level::Broken) => ", as both its sides are",
         (Operator::PropertyAnd, Level::Strong) => ", as both its sides did",
         _ => "; both its sides count",
+    }
+}
+
+/// What counts in a `|->` or `|=>`.
+fn implying(explained: &Explained, level: Level) -> &'static str {
+    match (level, explained.decisive.asked) {
+        (Level::Strong, false) => {
+            ", for its left side can no longer match from there: nothing was asked"
+        }
+        (_, false) => ", for its left side has not matched from there yet",
+        (Level::Strong, _) => "; no match of its left side was broken, and none is still to come",
+        (Level::Neutral, _) => "; no match of its left side was broken, and one may still be",
+        _ => "; every match of its left side counts",
+    }
+}
+
+/// What counts in a `#-#` or `#=#`.
+fn following(explained: &Explained, level: Level) -> &'static str {
+    match (level, explained.decisive.asked) {
+        (Level::Broken, false) => ", for its left side can no longer match from there",
+        (_, false) => ", for its left side has not matched from there yet",
+        (Level::Broken, _) => {
+            "; its right side held at no match of its left side, and none is still to come"
+        }
+        _ => "; every match of its left side counts",
     }
 }
 

@@ -12,13 +12,14 @@
 //! | `nexttime P` | P at i + 1, if i is below n; under a clock, P at the second tick from i on, if there is one |
 //! | `P until Q` | P and Q at each sample from i on, up to the first where P does not hold or Q does; under a clock, samples are ticks |
 //!
-//! By document 02 a record tests the assertion exactly where it reaches some `strong` or `weak`. That
-//! answer is the judge's; the tests hold it against what is reached here.
+//! Derived operators are written out first, so that these rules are enough. By document 02 a record tests
+//! the assertion exactly where it reaches some `strong` or `weak`. That answer is the judge's; the tests
+//! hold it against what is reached here.
 //!
 //! Ticks, matches and whether a part holds are read off the rows that judging the whole assertion leaves,
 //! so that a record is judged once.
 use super::Judged;
-use crate::assertion::{Assertion, Operator, MOST_NODES};
+use crate::assertion::{Assertion, Expanded, Operator, MOST_NODES};
 use crate::engine::{Engines, Unjudged};
 use xistomar::{Judge, Refusal, SHARE};
 
@@ -27,39 +28,54 @@ use xistomar::{Judge, Refusal, SHARE};
 #[derive(Clone, Debug)]
 pub struct Reaching {
     table: Vec<u8>,
-    assertion: Assertion,
-    /// For each node the number of its row.
+    expanded: Expanded,
+    /// For each node of the expansion the number of its row.
     rows: Vec<usize>,
-    /// For each node the condition of its clock, if any.
+    /// For each node of the expansion the condition of its clock, if any.
     clocks: Vec<Option<usize>>,
-    /// Each `|->`, with its right side.
-    implications: Vec<(usize, usize)>,
+    implications: Vec<Asking>,
+}
+
+/// A `|->`, `|=>`, `#-#` or `#=#` of an assertion.
+#[derive(Clone, Debug)]
+pub struct Asking {
+    /// Its node in the table.
+    pub node: usize,
+    /// The `|->` of the expansion that stand for it.
+    written: Vec<usize>,
+    /// Their right sides.
+    right: Vec<usize>,
 }
 
 impl Reaching {
-    /// Prepares a table that the proved check accepts, or answers its refusal.
+    /// Prepares a table that the proved expander accepts, or answers its refusal.
     pub fn of(table: &[u8]) -> Result<Reaching, Refusal> {
-        let assertion = Assertion::of_table(table)?;
-        let nodes = assertion.nodes().iter().enumerate();
-        let implications = nodes.filter(|(_, node)| node.operator == Operator::Implies);
-        let implications = implications.map(|(index, node)| (index, usize::from(node.y)));
-        let clocks = (0..=assertion.root()).map(|node| assertion.clock(node));
+        let expanded = Expanded::of(table)?;
+        let written = expanded.written();
+        let clocks = (0..=written.root()).map(|node| written.clock(node));
+        let right = |implication: &usize| usize::from(written.node(*implication).y);
+        let asking = |(node, written): (usize, Vec<usize>)| Asking {
+            node,
+            right: written.iter().map(right).collect(),
+            written,
+        };
+        let implications = expanded.implications().into_iter().map(asking);
         Ok(Reaching {
             table: table.to_vec(),
-            rows: assertion.rewritten(),
+            rows: written.rewritten(),
             clocks: clocks.collect(),
             implications: implications.collect(),
-            assertion,
+            expanded,
         })
     }
 
-    /// The assertion.
+    /// The assertion of the table.
     pub fn assertion(&self) -> &Assertion {
-        &self.assertion
+        self.expanded.given()
     }
 
-    /// Each `|->`, with its right side, in the order of the table.
-    pub fn implications(&self) -> &[(usize, usize)] {
+    /// Each `|->`, `|=>`, `#-#` and `#=#`, in the order of the table.
+    pub fn implications(&self) -> &[Asking] {
         &self.implications
     }
 
@@ -83,8 +99,8 @@ impl Reaching {
     /// the right side was reached.
     fn asked(&self, rows: &[u64], samples: usize) -> bool {
         let reached = self.read_off(rows, samples);
-        let mut right_sides = self.implications.iter().map(|(_, right)| *right);
-        right_sides.all(|right| reached.set(right) != 0)
+        let mut implications = self.implications.iter();
+        implications.all(|asking| reached.union(&asking.right) != 0)
     }
 
     /// Where parts are reached, by the rows that the judge left.
@@ -95,28 +111,39 @@ impl Reaching {
             samples,
             reached: [0; MOST_NODES],
         };
-        walk.reach(self.assertion.root(), 1);
+        let root = self.expanded.written().root();
+        walk.reach(root, 1);
         // an operand stands below its node, so nothing is reached any more once it passes on
-        for index in (0..=self.assertion.root()).rev() {
+        for index in (0..=root).rev() {
             walk.pass_on(index);
         }
         Reached(walk.reached)
     }
 }
 
-/// Where the property nodes of an assertion are reached.
+/// Where the property nodes of an expansion are reached.
 #[derive(Clone, Debug)]
 pub struct Reached([u64; MOST_NODES]);
 
 impl Reached {
-    /// Bit i is set where a node is reached at sample i.
+    /// Bit i is set where a node of the expansion is reached at sample i.
     pub fn set(&self, node: usize) -> u64 {
         self.0.get(node).copied().unwrap_or_default()
     }
 
-    /// The samples at which a node is reached, and the number of samples where that is at the end.
-    pub fn samples(&self, node: usize) -> Vec<usize> {
-        positions(self.set(node)).collect()
+    /// The same for any of some nodes.
+    fn union(&self, nodes: &[usize]) -> u64 {
+        nodes.iter().fold(0, |all, node| all | self.set(*node))
+    }
+
+    /// The samples at which an implication is reached, and the number of samples where that is at the end.
+    pub fn reached(&self, asking: &Asking) -> Vec<usize> {
+        positions(self.union(&asking.written)).collect()
+    }
+
+    /// The samples at which its right side is asked.
+    pub fn asked(&self, asking: &Asking) -> Vec<usize> {
+        positions(self.union(&asking.right)).collect()
     }
 }
 
@@ -151,7 +178,7 @@ impl Walk<'_> {
         if from == 0 {
             return;
         }
-        let node = self.reaching.assertion.node(index);
+        let node = self.reaching.expanded.written().node(index);
         let (x, y) = (usize::from(node.x), usize::from(node.y));
         match node.operator {
             Operator::PropertyNot => self.reach(x, from),

@@ -235,7 +235,7 @@ fn what_is_asked_once_is_said() {
     let [table, open, held] = ["p1.svt", "p1.svw", "p3.svw"].map(example);
     let ran = kit(["batch", &table, &open, &held]);
     let note = "  in all\n\nAsked once: the whole assertion, at the first sample only. To ask at every sample, write\n\
-                \x20 strong(s0 ##1 s1) until strong(0)\nor say with --once that once is meant.\n";
+                \x20 always strong(s0 ##1 s1)\nor say with --once that once is meant.\n";
     assert!(ran.out.ends_with(note), "{}", ran.out);
     assert_eq!(count(&ran, "never asked"), 0);
     let meant = kit(["batch", &table, &open, &held, "--once"]);

@@ -17,7 +17,7 @@ fn flush(command: &str, more: &[&str]) -> Ran {
 }
 
 const ALONE: &str =
-    "\nJudged by the plain engine alone: the fast one refuses the table with 13, rewritten count over 120.\n";
+    "\nJudged by the plain engine alone: the fast one refuses the table with 13, expanded or rewritten count over 120.\n";
 const HINT: &str =
     "The plain engine judges it: leave out --engine fast, and --asked, which is read off the fast engine's rows.\n";
 
@@ -77,7 +77,7 @@ fn the_fast_engine_alone_refuses_with_13() {
         limits("picture", &["--engine", "fast", "-o", &output]),
     ] {
         assert_eq!((said.status, said.out.as_str()), (3, ""));
-        let message = format!("refused 13 at 0: rewritten count over 120\n{HINT}");
+        let message = format!("refused 13 at 0: expanded or rewritten count over 120\n{HINT}");
         assert!(said.err.ends_with(&message), "{}", said.err);
     }
     assert!(!folder.join("none.svg").exists());
@@ -207,7 +207,9 @@ fn the_engines_say_the_same_of_random_tables() {
         };
         assert_eq!(levels(&both), levels(&plain), "seed {seed}");
         assert_eq!(both.status, plain.status, "seed {seed}");
-        if fast.out.starts_with(r#"{"line":"refused 13 at 0""#) {
+        let past_13 = |said: &Ran| said.out.starts_with(r#"{"line":"refused 13 at 0""#);
+        // where derived operators are written out to too much, both refuse with 13
+        if past_13(&fast) && !past_13(&plain) {
             assert!(both.out.contains(r#""engine":"plain""#), "seed {seed}");
             past += usize::from(both.status == 0);
         } else {

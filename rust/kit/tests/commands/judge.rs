@@ -112,7 +112,7 @@ fn what_is_asked_once_is_said() {
     let lost = example("flush-broken.svw");
     let said = judge(&once, &lost, &[]);
     assert_eq!((said.status, said.line()), (0, "level 3 tested no"));
-    let always = format!("({assertion}) until strong(0)");
+    let always = format!("always ({assertion})");
     let note = format!(
         "\nAsked once: the whole assertion, at the first sample only. To ask at every sample, write\n  {always}\n\
          or say with --once that once is meant.\n"
@@ -234,7 +234,7 @@ fn every_refusal_of_a_table_names_the_table() {
         };
         refused(b"SVT\x01\0", 1, 0);
         refused(b"SVW\x01\0\x01\x01\0\0\0", 2, 0);
-        refused(b"SVT\x03\0\x01\x01\0\0\0", 3, 0);
+        refused(b"SVT\x04\0\x01\x01\0\0\0", 3, 0);
         refused(b"SVT\x01\x01\x01\x01\0\0\0", 3, 0);
         refused(b"SVT\x01\0\0", 4, 0);
         refused(

@@ -2,6 +2,7 @@
 //! for each command.
 mod bad_input;
 mod batch;
+mod derived;
 mod engine;
 mod judge;
 mod options;

@@ -162,12 +162,12 @@ fn refusals_1_to_5_say_what_was_found() {
     for (bytes, wanted) in cases {
         assert_eq!(shown(bytes), (3, wanted.to_string()));
     }
-    // 0, 3, 257 and 258 are no version of a table
-    for bytes in [[0, 0], [3, 0], [1, 1], [2, 1]] {
+    // 0, 4, 257 and 259 are no version of a table
+    for bytes in [[0, 0], [4, 0], [1, 1], [3, 1]] {
         let file = [b"SVT", &bytes[..], &[1]].concat();
         let version = u16::from_le_bytes(bytes);
         let reason = xistomar::check(&file).unwrap_err().reason();
-        let found = format!("the version is {version}, and that of a table is 1 or 2");
+        let found = format!("the version is {version}, and that of a table is 1, 2 or 3");
         assert_eq!(
             shown(&file),
             (3, format!("refused 3 at 0\n{reason}\n{found}\n"))
@@ -267,7 +267,7 @@ fn refusal_6_of_what_rises_and_falls() {
 fn a_refused_node_is_shown_among_the_others() {
     let mut nodes = vec![[1, 0, 0, 0], [16, 0, 0, 0], [99, 0, 0, 5]];
     nodes.extend([[0, 0, 0, 0]; 4]);
-    let page = "node with unknown operator, bad x or y, fourth byte not 0, operand not below, operand of wrong sort";
+    let page = "node with unknown operator, bad x, y or fourth byte, operand not below, operand of wrong sort";
     let wanted = format!(
         "refused 6 at 2\n{page}\nunknown operator: 99\n\n\
          \x20   0  op   1  x   0  y   0  signal\n\

@@ -95,8 +95,9 @@ fn what_is_asked_once_is_said() {
     assert_eq!((said.status, said.err.as_str()), (0, ""));
     let read =
         format!("{table}: 8 nodes, 3 signals, a property\nread as: @(c) (a |-> strong(b))\n");
-    let note = "Asked once: the whole assertion, at the first sample only. To ask at every tick, write\n\
-                \x20 @(c) ((a |-> strong(b)) until strong(0))\nor say with --once that once is meant.\n";
+    let note =
+        "Asked once: the whole assertion, at the first sample only. To ask at every tick, write\n\
+                \x20 @(c) always (a |-> strong(b))\nor say with --once that once is meant.\n";
     assert_eq!(said.out, format!("{read}{note}"));
     let written = fs::read(&table).unwrap();
     let meant = kit(["table", &text, "-o", &table, "--once"]);

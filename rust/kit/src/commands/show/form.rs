@@ -20,7 +20,7 @@ pub struct Form {
 pub const TABLE: Form = Form {
     called: "table",
     mark: b"SVT",
-    versions: "1 or 2",
+    versions: "1, 2 or 3",
     part: 4,
 };
 

@@ -6,7 +6,7 @@ use crate::notation;
 use crate::words;
 
 /// What an operator is called.
-const CALLED: [(Operator, &str); 23] = [
+const CALLED: [(Operator, &str); 34] = [
     (Operator::Constant, "constant"),
     (Operator::Signal, "signal"),
     (Operator::Not, "boolean not"),
@@ -21,6 +21,10 @@ const CALLED: [(Operator, &str); 23] = [
     (Operator::Empty, "[*0]"),
     (Operator::Repeated, "[*1:$]"),
     (Operator::ClockedSequence, "clocked sequence"),
+    (Operator::Times, "[*m:n]"),
+    (Operator::Delay, "##[m:n]"),
+    (Operator::Goto, "[->m]"),
+    (Operator::Nonconsecutive, "[=m]"),
     (Operator::Strong, "strong"),
     (Operator::Weak, "weak"),
     (Operator::PropertyNot, "property not"),
@@ -30,6 +34,13 @@ const CALLED: [(Operator, &str); 23] = [
     (Operator::Nexttime, "nexttime"),
     (Operator::Until, "until"),
     (Operator::ClockedProperty, "clocked property"),
+    (Operator::ImpliesNext, "|=>"),
+    (Operator::Followed, "#-#"),
+    (Operator::FollowedNext, "#=#"),
+    (Operator::Always, "always"),
+    (Operator::Eventually, "s_eventually"),
+    (Operator::StrongUntil, "s_until"),
+    (Operator::StrongNexttime, "s_nexttime"),
 ];
 
 /// What the operator with a number is called.
@@ -55,7 +66,8 @@ pub fn accepted(table: &[u8], assertion: &Assertion, names: &Names) -> String {
         let operator = node.operator as u8;
         let part = notation::phrase(assertion, index, names);
         let words = format!("{:<16}  {part}", called(operator));
-        lines.push_str(&line(' ', index, [operator, node.x, node.y, 0], &words));
+        let bytes = [operator, node.x, node.y, node.fourth];
+        lines.push_str(&line(' ', index, bytes, &words));
     }
     lines
 }
@@ -74,8 +86,7 @@ pub fn around(table: &[u8], marked: usize) -> String {
     lines
 }
 
-/// One node: its mark, number, four bytes, and words for it. The fourth byte is shown where it is
-/// not the 0 that it should be.
+/// One node: its mark, number, four bytes, and words for it. The fourth byte is shown where it is not 0.
 fn line(mark: char, index: usize, node: [u8; 4], words: &str) -> String {
     let [operator, x, y, fourth] = node;
     let fourth = match fourth {

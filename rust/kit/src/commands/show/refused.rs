@@ -4,12 +4,18 @@ use super::nodes;
 use crate::assertion::{Assertion, Operator, Sort};
 use crate::names::Names;
 use crate::notation;
-use crate::refusals::HOLLOW;
+use crate::refusals::{self, HOLLOW};
+use crate::source::Source;
 use xistomar::Refusal;
 
 /// The program's line, the page's words, what was found, and the nodes around a refused one.
-pub fn report(table: &[u8], names: &Names, refusal: Refusal) -> String {
-    let mut report = form::report(refusal, &found(table, names, refusal));
+pub fn report(source: &Source, refusal: Refusal) -> String {
+    let (table, names) = (&source.table, &source.names);
+    let found = match refusal.number() {
+        13 => refusals::past(source).trim_end().to_string(),
+        _ => found(table, names, refusal),
+    };
+    let mut report = form::report(refusal, &found);
     if matches!(refusal.number(), 6 | 7 | 9) {
         report.push('\n');
         report.push_str(&nodes::around(table, refusal.node()));
@@ -51,9 +57,7 @@ fn faults(table: &[u8], node: usize) -> Vec<String> {
         return vec![of_later_version(operator, version(table))];
     }
     let mut faults = bad_bytes(operator, x, y);
-    if fourth != 0 {
-        faults.push(format!("fourth byte not 0: it is {fourth}"));
-    }
+    faults.extend(bad_fourth(operator, fourth));
     let operands = [("x", x), ("y", y)].into_iter().zip(operator.operands());
     for ((called, operand), sort) in operands {
         faults.extend(bad_operand(table, node, called, operand, *sort));
@@ -89,6 +93,21 @@ fn bad_bytes(operator: Operator, x: u8, y: u8) -> Vec<String> {
         ));
     }
     faults
+}
+
+/// A fourth byte that no node with this operator has.
+fn bad_fourth(operator: Operator, fourth: u8) -> Option<String> {
+    let (m, n) = (fourth % 16, fourth / 16);
+    match operator {
+        Operator::Times | Operator::Delay => {
+            let found = format!("bad fourth byte: it is {fourth}, which is {m} + 16 times {n}");
+            (m > n).then(|| format!("{found}, and the first number is at most the second"))
+        }
+        Operator::Goto | Operator::Nonconsecutive => {
+            (fourth > 15).then(|| format!("bad fourth byte: it is {fourth}, and 15 is the most"))
+        }
+        _ => (fourth != 0).then(|| format!("fourth byte not 0: it is {fourth}")),
+    }
 }
 
 /// What is wrong with an operand: it does not stand below its node, or is of the wrong sort.

@@ -35,7 +35,7 @@ fn signals_have_the_numbers_given_or_the_next() {
         named(&[("_a", 0), ("größe", 1), ("данные", 2)])
     );
     // a word that has a hint is no word of the notation, so it may be a name
-    assert_eq!(numbers("signals always=3"), named(&[("always", 3)]));
+    assert_eq!(numbers("signals s_always=3"), named(&[("s_always", 3)]));
     assert_eq!(numbers(""), []);
     assert_eq!(numbers("// nothing\n"), []);
 }
@@ -150,7 +150,7 @@ fn declarations_that_are_wrong_are_shown_at_their_place() {
             "signals a # b",
             1,
             11,
-            "comments begin with //, and delays are written ##1 and ##0",
+            "comments begin with //, and delays are written ##1 and ##[1:3]",
         ),
     ];
     for (text, line, column, words) in cases {

@@ -1,5 +1,5 @@
-//! The hints that rewrite an operator of another language: each is compared with that operator's
-//! definition, worked out here from what the judge says of its operands.
+//! The derived operators, and the hints that rewrite an operator of another language: each is compared with
+//! that operator's definition, worked out here from what the judge says of its operands.
 use super::hints::{self, Hint, FOREIGN};
 use super::*;
 use crate::verdict::Suffixes;
@@ -25,13 +25,13 @@ fn filled(form: &str, texts: &[(char, &str)]) -> String {
 
 /// Every rewriting that a hint gives, by its form.
 fn rewritings() -> Vec<(&'static str, &'static str)> {
-    let inside = [
-        "+", "*", "*0:$", "*1", "*0:1", "*0:0", "*2", "*1:2", "*2:$", "->1", "=1",
+    let inside = ["+", "*", "*0:$", "*2:$", "->1:2", "->1:$", "=1:2", "=1:$"];
+    let after = ["[1:$]", "[2:$]", "[0:$]", "[+]", "[*]"];
+    let others = [
+        hints::LEADING_DELAY,
+        hints::COUNTED_NEXT,
+        hints::COUNTED_STRONG_NEXT,
     ];
-    let after = [
-        "2", "[0:1]", "[1:2]", "[1:$]", "[2:$]", "[0:$]", "[+]", "[*]",
-    ];
-    let others = [hints::LEADING_DELAY, hints::COUNTED_NEXT];
     let hints = FOREIGN.iter().map(|(_, hint)| *hint);
     let hints = hints.chain(inside.iter().map(|text| hints::repetition(text)));
     let hints = hints.chain(after.iter().map(|text| hints::delay(text)));
@@ -43,26 +43,44 @@ fn rewritings() -> Vec<(&'static str, &'static str)> {
     hints.filter_map(written).collect()
 }
 
-/// The rewriting of a form.
-fn rewriting(form: &str) -> &'static str {
+/// The rewriting of a form; the form itself where it is part of the notation.
+fn rewriting(form: &'static str) -> &'static str {
+    if DERIVED.contains(&form) {
+        return form;
+    }
     let all = rewritings();
     let found = all.iter().find(|(known, _)| *known == form);
     found.unwrap_or_else(|| panic!("{form} has no rewriting")).1
 }
 
-const FORMS: [&str; 37] = [
+/// Forms with derived operators.
+const DERIVED: [&str; 17] = [
     "R |=> P",
     "R #-# P",
     "R #=# P",
+    "always P",
+    "s_eventually P",
+    "s_nexttime P",
+    "P s_until Q",
+    "R[*1]",
+    "R[*0:1]",
+    "R[*0:0]",
+    "R[*2]",
+    "R[*1:2]",
+    "b[->1]",
+    "b[=1]",
+    "R ##2 S",
+    "R ##[0:1] S",
+    "R ##[1:2] S",
+];
+
+/// Forms that are not part of the notation.
+const FORMS: [&str; 25] = [
     "a -> b",
     "a == b",
     "a != b",
     "c ? a : b",
-    "always P",
     "never P",
-    "s_eventually P",
-    "s_nexttime P",
-    "P s_until Q",
     "P until_with Q",
     "P s_until_with Q",
     "P implies Q",
@@ -72,22 +90,17 @@ const FORMS: [&str; 37] = [
     "R[+]",
     "R[*]",
     "R[*0:$]",
-    "R[*1]",
-    "R[*0:1]",
-    "R[*0:0]",
-    "R[*2]",
-    "R[*1:2]",
     "R[*2:$]",
-    "b[->1]",
-    "b[=1]",
-    "R ##2 S",
-    "R ##[0:1] S",
-    "R ##[1:2] S",
+    "b[->1:2]",
+    "b[->1:$]",
+    "b[=1:2]",
+    "b[=1:$]",
     "R ##[1:$] S",
     "R ##[2:$] S",
     "R ##[0:$] S",
     "##1 R",
     "nexttime[2] P",
+    "s_nexttime[2] P",
 ];
 
 #[test]
@@ -106,6 +119,9 @@ fn every_rewriting_is_read_and_every_form_is_known() {
         table(&filled(instead, &texts));
         // the form itself is not read
         assert!(read(&declared(&filled(form, &texts))).is_err(), "{form}");
+    }
+    for form in DERIVED {
+        assert_eq!(table(&filled(form, &texts))[3], 3, "{form}");
     }
 }
 
@@ -243,9 +259,15 @@ fn rewritten_properties_mean_what_they_stand_for() {
             let wanted = [0, 1, 2].map(|kind| definition(&Word::new(kind, &rows_p, &rows_q)));
             assert_eq!(given, wanted, "{form} as {text} on {samples:?}");
         }
-        let twice = filled(rewriting("nexttime[2] P"), &[('P', p)]);
-        let next = filled("nexttime (nexttime P)", &[('P', p)]);
-        assert_eq!(table(&twice), table(&next));
+        for word in ["nexttime", "s_nexttime"] {
+            let form = match word {
+                "nexttime" => "nexttime[2] P",
+                _ => "s_nexttime[2] P",
+            };
+            let twice = filled(rewriting(form), &[('P', p)]);
+            let next = filled(&format!("{word} ({word} P)"), &[('P', p)]);
+            assert_eq!(table(&twice), table(&next));
+        }
         // never P is always not P
         let never = filled(rewriting("never P"), &[('P', p)]);
         let always = filled(rewriting("always P"), &[('P', &format!("not ({p})"))]);
@@ -428,6 +450,47 @@ fn rewritten_sequences_mean_what_they_stand_for() {
     }
 }
 
+/// Repetitions and delays with any numbers, as far as their expansion fits.
+#[test]
+fn counts_mean_what_they_say() {
+    let (mut judge, random) = (Judge::new(), &mut Random(12));
+    let mut compared = 0;
+    for _ in 0..400 {
+        let samples = random.samples(6);
+        let [r_text, s_text] = [0; 2].map(|_| random.pick(&SOME_SEQUENCES));
+        let n = random.below(5);
+        let m = random.below(n + 1);
+        let texts = [
+            format!("({r_text})[*{m}:{n}]"),
+            format!("({r_text}) ##[{m}:{n}] ({s_text})"),
+        ];
+        let large = |text: &String| xistomar::rewrite(&table(text), &mut [0; 486]).is_err();
+        if texts.iter().any(large) {
+            continue;
+        }
+        let [r, s] = [r_text, s_text].map(|text| Matches::of(&mut judge, text, &samples));
+        let [times, delay] = texts.map(|text| Matches::of(&mut judge, &text, &samples));
+        let union = |all: Vec<Matches>| all.into_iter().reduce(|one, more| one.or(&more)).unwrap();
+        let power = |k| (0..k).fold(r.empty(), |row, _| row.then(0, &r));
+        assert_eq!(
+            times,
+            union((m..=n).map(power).collect()),
+            "{r_text} {m} {n}"
+        );
+        let apart = |k: usize| match k.checked_sub(1) {
+            None => r.fused(&s),
+            Some(gap) => r.then(gap, &s),
+        };
+        let wanted = union((m..=n).map(apart).collect());
+        assert_eq!(
+            delay, wanted,
+            "{r_text} ##[{m}:{n}] {s_text} on {samples:?}"
+        );
+        compared += 1;
+    }
+    assert!(compared > 200, "{compared}");
+}
+
 #[test]
 fn rewritten_repetitions_of_a_boolean_mean_what_they_stand_for() {
     let (mut judge, random) = (Judge::new(), &mut Random(10));
@@ -437,18 +500,31 @@ fn rewritten_repetitions_of_a_boolean_mean_what_they_stand_for() {
         // a is bit 0 of a sample
         let ones =
             |start: usize, end: usize| samples[start..end].iter().filter(|s| *s & 1 == 1).count();
-        let goto = Matches::made(count, |start, end| {
-            end > start && ones(start, end) == 1 && ones(end - 1, end) == 1
-        });
-        let once = Matches::made(count, |start, end| ones(start, end) == 1);
-        for (form, wanted) in [("b[->1]", goto), ("b[=1]", once)] {
-            let text = filled(rewriting(form), &[('b', "a")]);
-            assert_eq!(
-                Matches::of(&mut judge, &text, &samples),
-                wanted,
-                "{form} on {samples:?}"
-            );
+        let goto = |least: usize, most: usize| {
+            Matches::made(count, move |start, end| {
+                let last = end == start || ones(end - 1, end) == 1;
+                let exact = last && (end > start || least == 0);
+                exact && (least..=most).contains(&ones(start, end))
+            })
+        };
+        let among = |least: usize, most: usize| {
+            Matches::made(count, move |start, end| {
+                (least..=most).contains(&ones(start, end))
+            })
+        };
+        let mut compare = |text: &str, wanted: Matches| {
+            let text = filled(text, &[('b', "a")]);
+            let given = Matches::of(&mut judge, &text, &samples);
+            assert_eq!(given, wanted, "{text} on {samples:?}");
+        };
+        for m in 0..=5 {
+            compare(&format!("b[->{m}]"), goto(m, m));
+            compare(&format!("b[={m}]"), among(m, m));
         }
+        compare(rewriting("b[->1:2]"), goto(1, 2));
+        compare(rewriting("b[->1:$]"), goto(1, 9));
+        compare(rewriting("b[=1:2]"), among(1, 2));
+        compare(rewriting("b[=1:$]"), among(1, 9));
     }
 }
 

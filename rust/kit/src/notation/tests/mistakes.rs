@@ -75,11 +75,11 @@ fn an_operator_that_makes_a_property_is_named_where_a_sequence_is_due() {
 #[test]
 fn a_word_that_is_no_operator_is_told_before_the_sort_of_what_it_follows() {
     let expected = "an operator was expected, and here stands";
-    let until = "`P s_until Q` is written `((P) until (Q)) and not (not (Q) until strong(0))`";
+    let with = "`P until_with Q` is written `(P) until ((P) and (Q))`";
     let cases = [
         ("a |-> b before c", 9, format!("{expected} `before`")),
         ("a |-> b c", 9, format!("{expected} `c`")),
-        ("a |-> !b s_until c", 10, until.to_string()),
+        ("a |-> !b until_with c", 10, with.to_string()),
         (
             "strong(a) and b || c",
             17,
@@ -122,8 +122,8 @@ fn what_was_expected_is_said_at_its_place() {
         ("strong(a)\nstrong(b)", 3, 1, "a text says one assertion, and here begins another: `(P) and (Q)` joins two properties"),
         ("a |-> strong(b)\n\n  c |-> strong(d)", 4, 3, "a text says one assertion, and here begins another: `(P) and (Q)` joins two properties"),
         ("strong(a)\nuntl strong(b)", 3, 1, "an operator or the end of the text was expected, and here stands `untl`: did you mean until?"),
-        ("a[*1:$ ##1 b", 2, 8, "a closing ] after [*0 or [*1:$ was expected, and here stands `##`"),
-        ("a[*1:$ & b & c", 2, 8, "a closing ] after [*0 or [*1:$ was expected, and here stands `&`"),
+        ("a[*1:$ ##1 b", 2, 8, "a closing ] after a repetition or a delay was expected, and here stands `##`"),
+        ("a[*1:$ & b & c", 2, 8, "a closing ] after a repetition or a delay was expected, and here stands `&`"),
         ("strong(a) \u{1b}[31m", 2, 11, "the character U+001B is not part of the notation"),
         ("strong(a) \u{200b}", 2, 11, "the character U+200B is not part of the notation"),
         ("a |→ strong(b)", 2, 4, "`→` (U+2192) is not part of the notation"),
@@ -178,45 +178,50 @@ fn a_name_that_is_not_declared_gets_the_nearest() {
 #[test]
 fn what_other_languages_write_gets_a_hint() {
     let cases = [
-        ("a ##2 b", 3, "`R ##2 S` is written `R ##1 1 ##1 S`"),
-        ("a ##[1:3] b", 3, "`R ##[1:2] S` is written `((R ##1 S) or (R ##1 1 ##1 S))`"),
+        ("a ##16 b", 3, "a repetition or delay counts to 15 at most: two in a row go further"),
+        ("a ##[3:1] b", 3, "3 to 1 counts backwards: write 1:3"),
+        ("a ##[2] b", 3, "a delay is written `R ##3 S` or `R ##[1:4] S`"),
         ("a ##[2:$] b", 3, "`R ##[2:$] S` is written `(R ##1 1[*1:$] ##1 S)`"),
         ("a |-> ##1 b", 7, "`##1 R` is written `1 ##1 R`"),
         ("##1 a", 1, "`##1 R` is written `1 ##1 R`"),
         ("nexttime[2] strong(a)", 9, "`nexttime[2] P` is written `nexttime nexttime (P)`"),
-        ("a[*1:inf]", 2, "`R[*0]` or `R[*1:$]` was expected"),
-        ("a[*x]", 2, "`R[*0]` or `R[*1:$]` was expected"),
-        ("a |--> strong(b)", 3, "the implication is written |->"),
+        ("s_nexttime[2] strong(a)", 11, "`s_nexttime[2] P` is written `s_nexttime s_nexttime (P)`"),
+        ("always[1:3] strong(a)", 7, "always and s_eventually have no range here: `nexttime P` and `s_nexttime P` go one sample on"),
+        ("a[*1:inf]", 2, "a repetition is written `R[*3]`, `R[*2:5]`, `b[->2]` or `b[=2]`"),
+        ("a[*x]", 2, "a repetition is written `R[*3]`, `R[*2:5]`, `b[->2]` or `b[=2]`"),
+        ("a[*0:16]", 2, "a repetition or delay counts to 15 at most: two in a row go further"),
+        ("a[*2:1]", 2, "2 to 1 counts backwards: write 1:2"),
+        ("a |--> strong(b)", 3, "the implication is written |->, or |=> for the next sample"),
         ("a -> strong(b)", 3, "`a -> b` is written `(!(a) | (b))` of two booleans, and `R |-> P` where a property follows"),
         ("strong(a = 1)", 10, "a signal stands for itself: `a` where it is 1, and `!a` where it is 0"),
         ("a ##[+] b", 3, "`R ##[1:$] S` is written `(R ##1 (1[*0] or 1[*1:$]) ##1 S)`"),
-        ("a ## b", 3, "## is followed by 1 or 0, as in `R ##1 S`"),
-        ("a[*2]", 2, "`R[*2]` is written `(R ##1 R)`"),
+        ("a ## b", 3, "a delay is written `R ##3 S` or `R ##[1:4] S`"),
+        ("a[*2:$]", 2, "`R[*2:$]` is written `(R ##1 R[*1:$])`"),
         ("a[*]", 2, "`R[*]` is written `(R[*0] or R[*1:$])`"),
         ("a[+]", 2, "`R[+]` is written `R[*1:$]`"),
         ("a[*0:$]", 2, "`R[*0:$]` is written `(R[*0] or R[*1:$])`"),
-        ("a[->1]", 2, "`b[->1]` is written `(((!b)[*0] or (!b)[*1:$]) ##1 b)`"),
-        ("a[3]", 2, "`R[*0]` or `R[*1:$]` was expected: a signal has one bit, so each bit of a bus is a signal of its own"),
-        ("a |=> strong(b)", 3, "`R |=> P` is written `(R) ##1 1 |-> P`"),
+        ("a[->1:2]", 2, "`b[->1:2]` is written `(b[->1] or b[->2])`"),
+        ("a[=2:$]", 2, "`b[=1:$]` is written `(b[->1][*1:$] ##1 b[=0])`"),
+        ("a[3]", 2, "a repetition such as `R[*3]` was expected: a signal has one bit, so each bit of a bus is a signal of its own"),
         ("a && b", 3, "booleans are joined by &, which binds tighter than | (&& binds looser): parentheses help where both stand"),
         ("a || b", 3, "booleans are joined by |"),
         ("~a", 1, "a boolean is turned round by !"),
         ("a == b", 3, "`a == b` is written `(((a) & (b)) | (!(a) & !(b)))`; for `a == 1` write `a`, and for `a == 0` write `!a`"),
         ("a != b", 3, "`a != b` is written `(((a) & !(b)) | (!(a) & (b)))`"),
-        ("always strong(a)", 1, "`always P` is written `((P) until strong(0))`"),
-        ("strong(a) s_until strong(b)", 11, "`P s_until Q` is written `((P) until (Q)) and not (not (Q) until strong(0))`"),
-        ("s_nexttime strong(a)", 1, "`s_nexttime P` is written `not nexttime not (P)`"),
+        ("never strong(a)", 1, "`never P` is written `always not (P)`"),
+        ("strong(a) s_until_with strong(b)", 11, "`P s_until_with Q` is written `(P) s_until ((P) and (Q))`"),
+        ("eventually strong(a)", 1, "that P comes is said by `s_eventually P`"),
         ("a intersect b", 3, "this operator is not part of the notation: kit table --help lists those that are"),
         ("first_match(a)", 1, "this operator is not part of the notation: kit table --help lists those that are"),
         ("a throughout b", 3, "this operator is not part of the notation: kit table --help lists those that are"),
         ("disable iff (a) strong(b)", 1, "resets are not part of the notation: take them out of the record"),
         ("strong(a) implies strong(b)", 11, "`P implies Q` is written `(not (P)) or (Q)`"),
-        ("# a comment", 1, "comments begin with //, and delays are written ##1 and ##0"),
+        ("# a comment", 1, "comments begin with //, and delays are written ##1 and ##[1:3]"),
         ("@(posedge a) strong(b)", 3, "`posedge c` is written `rose(c)`, as in `@(rose(c))`: c is 1, and was 0 at the sample before; `kit record --on` takes samples at an edge"),
         ("@(negedge a) strong(b)", 3, "`negedge c` is written `fell(c)`, as in `@(fell(c))`: c is 0, and was 1 at the sample before; `kit record --on` takes samples at an edge"),
         ("@(edge a) strong(b)", 3, "`edge c` is written `rose(c) | fell(c)`: c is not as it was at the sample before; `kit record --on` takes samples at an edge"),
         ("strong(a);", 10, "leave ; out: a declaration ends with its line, and the assertion with the text"),
-        ("assert property (strong(a))", 1, "the assertion stands alone, without `assert property (..);` or a name around it, and is asked at the first sample only: `P until strong(0)` asks P at every one"),
+        ("assert property (strong(a))", 1, "the assertion stands alone, without `assert property (..);` or a name around it, and is asked at the first sample only: `always P` asks P at every one"),
         ("strong($rose(a))", 8, "`$rose(a)` is written `rose(a)`, and goes by the sample before, not by the clock tick before"),
         ("strong($rose(a, @(posedge b)))", 8, "`$rose(a)` is written `rose(a)`, and goes by the sample before, not by the clock tick before"),
         ("@(c) $fell(a) |-> strong(b)", 6, "`$fell(a)` is written `fell(a)`, and goes by the sample before, not by the clock tick before"),
@@ -229,7 +234,19 @@ fn what_other_languages_write_gets_a_hint() {
         assert_eq!(mistake(text), (2, column, words.to_string()), "{text}");
     }
     // a signal with such a name is a signal
-    assert!(read("signals always\nstrong(always)").is_ok());
+    assert!(read("signals s_always\nstrong(s_always)").is_ok());
+}
+
+/// b[->m] and b[=m] count samples, and so take a boolean.
+#[test]
+fn what_waits_is_a_boolean() {
+    let count = "b[->m] and b[=m] count samples that satisfy a boolean";
+    for text in ["(a ##1 b)[->2]", "(a ##1 b)[=2]"] {
+        let words = format!("a boolean is due here, and `(a ##1 b)` is a sequence: {count}");
+        assert_eq!(mistake(text), (2, 1, words), "{text}");
+    }
+    let words = format!("a boolean is due here, and `a[*2]` is a sequence: {count}");
+    assert_eq!(mistake("a[*2][->2]"), (2, 1, words));
 }
 
 #[test]

@@ -1,6 +1,7 @@
 //! Tests of the notation.
 mod bytes;
 mod declaring;
+mod derived;
 mod edges;
 mod meanings;
 mod mistakes;

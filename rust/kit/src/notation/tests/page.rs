@@ -36,7 +36,7 @@ fn the_mistake_is_the_one_that_is_shown() {
 
 #[test]
 fn the_table_of_levels_has_the_documents_numbers() {
-    for number in (2..=4).chain(17..=22).chain(34..=40) {
+    for number in (2..=4).chain(17..=26).chain(34..=47) {
         let operator = Operator::of(number).unwrap();
         let sign = match operator {
             Operator::Not => "`!b`",
@@ -55,6 +55,17 @@ fn the_table_of_levels_has_the_documents_numbers() {
             Operator::Nexttime => "`nexttime P`",
             Operator::Until => "`P until P`",
             Operator::ClockedProperty => "`@(b) P`",
+            Operator::Times => "`R[*m:n]`",
+            Operator::Delay => "`R ##[m:n] R`",
+            Operator::Goto => "`b[->m]`",
+            Operator::Nonconsecutive => "`b[=m]`",
+            Operator::ImpliesNext => "`R \\|=> P`",
+            Operator::Followed => "`R #-# P`",
+            Operator::FollowedNext => "`R #=# P`",
+            Operator::Always => "`always P`",
+            Operator::Eventually => "`s_eventually P`",
+            Operator::StrongUntil => "`P s_until P`",
+            Operator::StrongNexttime => "`s_nexttime P`",
             other => panic!("{other:?} is in no row"),
         };
         let row = PAGE
@@ -75,10 +86,10 @@ fn the_table_of_levels_has_the_documents_numbers() {
 #[test]
 fn the_page_says_how_other_operators_are_written() {
     for hint in [
-        hints::of("always"),
-        hints::of("|=>"),
+        hints::of("never"),
         hints::of("$past"),
         Some(hints::repetition("*0:$")),
+        Some(hints::repetition("->1:2")),
     ] {
         let Some(hints::Hint::Written(form, instead) | hints::Hint::Noted(form, instead, _)) = hint
         else {
@@ -102,6 +113,12 @@ fn what_is_easily_misread_is_read_as_the_page_says() {
             format!("@(c) {a} until {b}"),
             format!("@(c) ({a} until {b})"),
         ),
+        (format!("always c |=> {a}"), format!("always (c |=> {a})")),
+        (
+            format!("always {a} and always {b}"),
+            format!("always ({a} and (always {b}))"),
+        ),
+        (format!("c |-> c |=> {a}"), format!("c |-> c |=> {a}")),
     ] {
         let read = read(&declared(&text)).unwrap();
         let written = write(&read.assertion, &read.names);

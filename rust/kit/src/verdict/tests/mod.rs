@@ -12,7 +12,7 @@ mod walk;
 
 use super::decisive::{decisive, Decisive};
 use super::{Account, Verdict};
-use crate::assertion::Assertion;
+use crate::assertion::{Assertion, Expanded};
 use crate::engine::{Engine, Engines, Unjudged};
 use crate::names::Names;
 use crate::testing;
@@ -23,6 +23,11 @@ fn table(nodes: &[[u8; 3]]) -> Vec<u8> {
         true => testing::table_2(nodes),
         false => testing::table(nodes),
     }
+}
+
+/// An assertion with its expansion.
+fn expanded(assertion: &Assertion) -> Expanded {
+    Expanded::of(&assertion.table()).unwrap()
 }
 
 /// The verdict of both engines; none where the plain one judges alone, which leaves no rows.
@@ -45,7 +50,7 @@ fn found(nodes: &[[u8; 3]], samples: &[u64]) -> Decisive {
     let table = table(nodes);
     let verdict = verdict(&table, samples).unwrap();
     let assertion = Assertion::of_table(&table).unwrap();
-    decisive(&assertion, samples, &verdict).unwrap()
+    decisive(&expanded(&assertion), samples, &verdict).unwrap()
 }
 
 /// Asserts the level after each sample, the closing sample, and the decisive part: its node, the sample

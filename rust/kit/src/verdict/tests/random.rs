@@ -1,7 +1,7 @@
 //! What the decisive part promises, on random tables and records of the program `second`.
 use super::super::decisive::{decisive, Decisive};
 use super::super::Verdict;
-use super::{suffixes, verdict};
+use super::{expanded, suffixes, verdict};
 use crate::assertion::{Assertion, Builder, Operator, Sort};
 use crate::testing::{rising, Random};
 use second::{random_case, Case};
@@ -57,7 +57,7 @@ fn under_not(assertion: &Assertion, node: usize) -> bool {
 fn the_decisive_part_has_the_assertions_level() {
     let (mut seen, mut turned) = ([0; 4], 0);
     for (assertion, samples, verdict) in accepted(0..8_000) {
-        let part = decisive(&assertion, &samples, &verdict).unwrap();
+        let part = decisive(&expanded(&assertion), &samples, &verdict).unwrap();
         let sort = assertion.node(part.node).operator.sort();
         assert_eq!(sort, Sort::Property);
         assert!(part.from <= samples.len());
@@ -94,7 +94,7 @@ fn the_decisive_part_of_a_closed_assertion_closed_with_it() {
             continue;
         };
         let count = sample + 1;
-        let part = decisive(&assertion, &samples, &verdict).unwrap();
+        let part = decisive(&expanded(&assertion), &samples, &verdict).unwrap();
         assert_eq!(part.closed, Some(sample));
         assert!(part.from < count);
         let whole = verdict.judgement.level.number();
@@ -122,7 +122,7 @@ fn no_longer_record_has_an_open_assertion_above_its_decisive_part() {
         if verdict.closed().is_some() {
             continue;
         }
-        let part = decisive(&assertion, &samples, &verdict).unwrap();
+        let part = decisive(&expanded(&assertion), &samples, &verdict).unwrap();
         assert_eq!(part.closed, None);
         for seed in 0..4 {
             let longer = later(&samples, seed);
@@ -166,7 +166,7 @@ fn copy(
     for (place, operand) in copied.iter_mut().zip(operands) {
         *place = copy(assertion, operand, put, builder)?;
     }
-    builder.add(node.operator, copied[0], copied[1])
+    builder.add_counted(node.operator, copied[0], copied[1], node.fourth)
 }
 
 /// What if the part had been broken at every sample? Inside the record it then has level 0, and the
@@ -175,7 +175,7 @@ fn copy(
 fn had_the_decisive_part_been_otherwise_so_had_the_assertion() {
     let mut seen = 0;
     for (assertion, samples, verdict) in accepted(0..8_000) {
-        let part = decisive(&assertion, &samples, &verdict).unwrap();
+        let part = decisive(&expanded(&assertion), &samples, &verdict).unwrap();
         let strong = verdict.judgement.level == Level::Strong;
         let constant = usize::from(part.turned != strong);
         let Some(other) = with_constant(&assertion, part.node, constant) else {

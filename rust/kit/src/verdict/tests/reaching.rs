@@ -2,8 +2,9 @@
 //! one by one, with every part asked of the library as a table of its own; and against the judge's flag.
 use super::super::asked::Asked;
 use super::super::reached::{Reached, Reaching};
+use super::expanded;
 use super::random::accepted;
-use crate::assertion::{Assertion, Operator, Sort};
+use crate::assertion::{Assertion, Expanded, Operator, Sort};
 use crate::engine::{Engine, Engines};
 use std::collections::HashSet;
 use xistomar::{Judge, Level};
@@ -14,7 +15,16 @@ fn reached(assertion: &Assertion, samples: &[u64]) -> Reached {
     reaching.reached(&mut Judge::new(), samples).unwrap()
 }
 
-/// The same by the rules: each node with each position at which it is reached, once.
+/// The positions at which a node of the table is reached: those of the nodes that stand for it.
+fn positions(expanded: &Expanded, reached: &Reached, node: usize) -> Vec<usize> {
+    let written = 0..expanded.written().nodes().len();
+    let stand = written.filter(|it| expanded.stands_for(*it) == Some(node));
+    let set = stand.fold(0, |all, it| all | reached.set(it));
+    (0..64).filter(|at| set >> at & 1 == 1).collect()
+}
+
+/// The same by the rules, with derived operators by rules of their own: each node with each position at
+/// which it is reached, once.
 struct Rules<'a> {
     assertion: &'a Assertion,
     asked: Asked<'a>,
@@ -35,14 +45,24 @@ impl Rules<'_> {
                 self.reach(y, at);
             }
             Operator::ClockedProperty => self.reach(y, at),
-            Operator::Implies => {
+            Operator::Implies | Operator::Followed => {
                 for end in self.asked.matches(x, at).unwrap().ends() {
                     if end > at {
                         self.reach(y, end - 1);
                     }
                 }
             }
-            Operator::Nexttime => {
+            // one letter more, which under a clock is its next tick
+            Operator::ImpliesNext | Operator::FollowedNext => {
+                for end in self.asked.matches(x, at).unwrap().ends() {
+                    let later = self.asked.positions(index, end).unwrap();
+                    later
+                        .first()
+                        .into_iter()
+                        .for_each(|next| self.reach(y, *next));
+                }
+            }
+            Operator::Nexttime | Operator::StrongNexttime => {
                 let ticks = self.asked.positions(index, at).unwrap();
                 match self.assertion.clock(index) {
                     None if at < self.asked.count() => self.reach(x, at + 1),
@@ -54,7 +74,24 @@ impl Rules<'_> {
                 let samples = self.asked.positions(index, at).unwrap();
                 self.until((x, y), samples);
             }
+            Operator::Always => self.run(index, x, at, false),
+            Operator::Eventually => self.run(index, x, at, true),
+            Operator::StrongUntil => {
+                let samples = self.asked.positions(index, at).unwrap();
+                self.until((x, y), samples);
+                self.run(index, y, at, true);
+            }
             _ => {}
+        }
+    }
+
+    /// Reaches a property at each sample from one on, up to the first where it holds or does not.
+    fn run(&mut self, index: usize, property: usize, at: usize, until_it_holds: bool) {
+        for sample in self.asked.positions(index, at).unwrap() {
+            self.reach(property, sample);
+            if self.holds(property, sample) == until_it_holds {
+                break;
+            }
         }
     }
 
@@ -93,36 +130,39 @@ fn properties(assertion: &Assertion) -> impl Iterator<Item = (usize, Operator)> 
 #[test]
 fn parts_are_reached_as_the_rules_say() {
     let (mut inside, mut at_end, mut never) = (0, 0, 0);
-    for (assertion, samples, _) in accepted(0..8_000) {
+    let mut derived = 0;
+    for (assertion, samples, _) in accepted(0..12_000) {
         let (reached, rules) = (
             reached(&assertion, &samples),
             by_rules(&assertion, &samples),
         );
-        for (node, _) in properties(&assertion) {
+        let expanded = expanded(&assertion);
+        for (node, operator) in properties(&assertion) {
             let expected = (0..=samples.len()).filter(|at| rules.contains(&(node, *at)));
             let expected: Vec<usize> = expected.collect();
             assert_eq!(
-                reached.samples(node),
+                positions(&expanded, &reached, node),
                 expected,
                 "{assertion:?} {samples:?} {node}"
             );
+            derived += usize::from(operator.is_derived() && !expected.is_empty());
             inside += usize::from(expected.iter().any(|at| *at < samples.len()));
             at_end += usize::from(expected.contains(&samples.len()));
             never += usize::from(expected.is_empty());
         }
     }
     assert!(
-        inside > 5_000 && at_end > 1_000 && never > 1_000,
-        "{inside} {at_end} {never}"
+        inside > 5_000 && at_end > 1_000 && never > 1_000 && derived > 500,
+        "{inside} {at_end} {never} {derived}"
     );
 }
 
 #[test]
 fn every_implication_is_asked_where_each_right_side_is_reached() {
     let mut seen = [0; 2];
-    for (assertion, samples, verdict) in accepted(0..8_000) {
+    for (assertion, samples, verdict) in accepted(0..12_000) {
         let rules = by_rules(&assertion, &samples);
-        let implications = properties(&assertion).filter(|(_, it)| *it == Operator::Implies);
+        let implications = properties(&assertion).filter(|(_, it)| it.is_implication());
         let asked = implications.map(|(node, _)| {
             let right = usize::from(assertion.node(node).y);
             rules.iter().any(|(reached, _)| *reached == right)
@@ -139,14 +179,16 @@ fn every_implication_is_asked_where_each_right_side_is_reached() {
     assert!(seen.iter().all(|count| *count > 300), "{seen:?}");
 }
 
-/// Document 02: strong and weak are tested, and every other property where one of them is reached.
+/// Document 02: strong and weak are tested, and every other property where one of them is reached; those
+/// among them that derived operators are written out to.
 #[test]
 fn a_record_tests_an_assertion_where_it_reaches_strong_or_weak() {
     let mut seen = [0; 2];
     for (assertion, samples, verdict) in accepted(0..20_000) {
         let reached = reached(&assertion, &samples);
         let promise = |operator| matches!(operator, Operator::Strong | Operator::Weak);
-        let tested = properties(&assertion)
+        let expanded = expanded(&assertion);
+        let tested = properties(expanded.written())
             .any(|(node, operator)| promise(operator) && reached.set(node) != 0);
         assert_eq!(
             verdict.judgement.tested, tested,

@@ -79,7 +79,7 @@ fn a_waiting_record_in_words() {
          If nothing more came, the assertion would not have held.\n\
          Tested: the record put the assertion to the test.\n\
          Asked: {0}, reached from sample 0: its left side matched at sample 0.\n\
-         Asked once: the whole assertion, at the first sample only. To ask at every sample, write\n  ({0}) until strong(0)\n\
+         Asked once: the whole assertion, at the first sample only. To ask at every sample, write\n  always ({0})\n\
          or say with --once that once is meant.\n\
          \n  sample  start   0\n  level       2   1\n\
          \n\
@@ -303,7 +303,7 @@ fn a_refusal_in_words_and_as_json() {
         "refused 9 at 3\n\nThe table is refused with number 9 at node 3: strong, weak or |-> \
                     over a sequence that matches no k letters ⊤, k at least 1.\n\
                     kit show hollow.svt shows the table.\n";
-    let said = refusal_words(refused, Path::new("hollow.svt"), &hollow);
+    let said = refusal_words(refused, Path::new("hollow.svt"), &hollow, "");
     assert_eq!(said, expected);
     let written = refusal_object(refused, Engine::Fast, Required::default()).to_string();
     let expected = r#"{"line":"refused 9 at 3","engine":"fast","level":null,"name":null,"meaning":null,"tested":null,"implications":[],"once":null,"assertion":null,"signals":[],"samples":null,"levels":[],"closed":null,"decisive":null,"required":{"level":null,"tested":false,"asked":false,"reached":false},"refused":{"file":"table","number":9,"node":3,"reason":"strong, weak or |-> over a sequence that matches no k letters ⊤, k at least 1"}}"#;

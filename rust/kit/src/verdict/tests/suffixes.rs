@@ -41,8 +41,8 @@ fn properties(assertion: &Assertion) -> Vec<usize> {
 
 #[test]
 fn the_rows_have_the_level_from_every_sample_on() {
-    let mut compared = [0; 3];
-    for (assertion, samples, _) in accepted(0..3_000) {
+    let mut compared = [0; 4];
+    for (assertion, samples, _) in accepted(0..4_000) {
         for node in properties(&assertion) {
             for from in (0..=samples.len()).take(12) {
                 let Some(asked) = by_nexttimes(&assertion, &samples, node, from) else {
@@ -54,7 +54,10 @@ fn the_rows_have_the_level_from_every_sample_on() {
             }
         }
     }
-    assert!(compared[1] > 5_000 && compared[2] > 5_000, "{compared:?}");
+    assert!(
+        compared.iter().skip(1).all(|count| *count > 3_000),
+        "{compared:?}"
+    );
 }
 
 /// Nothing in a version 1 table looks at the sample before, so there the samples from one on may as well
