@@ -11,3 +11,5 @@ pub mod Rewritten
 pub mod PlainDemands
 pub mod Agreement
 pub mod Before
+-- What the flag comes to.
+pub mod Flag

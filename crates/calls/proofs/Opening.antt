@@ -16,7 +16,7 @@ use Rattle.nodes.specs.Operators.{newest}
 use Rattle.table.specs.Check.{refusalsTo}
 use Rattle.table.proofs.CheckingTo.{checks-none}
 use Rattle.encoding.specs.Encoding.{put}
-use Rattle.expansion.specs.Expansion.{table3, expansion}
+use Rattle.expansion.specs.Expansion.{baseTable, expansion}
 use Rattle.expansion.proofs.Theorems.{length-table}
 use Rattle.expand.specs.declared.Expansion.{Expansion}
 use Rattle.expand.specs.Opens.{isDerived, openRefusals, Opens}
@@ -57,7 +57,7 @@ module _ (s : List ℕ) (wrong : ℕ) (lent : List ℕ) (r : Expansion) (new : L
     unfolding put expansion
     bytes =
         rw (eq-eqb (version s) 3 (version-three s (derived s b e h)), w .bytes z)
-        (sym (take-at (table3 s) (drop (0 + length (table3 s)) lent) (4 * r .count + 6 - 0) (let l = length-table s in let c = w .count z in omega arith)))
+        (sym (take-at (baseTable s) (drop (0 + length (baseTable s)) lent) (4 * r .count + 6 - 0) (let l = length-table s in let c = w .count z in omega arith)))
 
     pub taken : Taken s (take (4 * r .count + 6 - 0) (drop 0 new))
     taken = subst (Taken s) bytes (expanded opened)

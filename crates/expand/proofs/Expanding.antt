@@ -19,7 +19,7 @@ use Rattle.nodes.proofs.Built.{Built}
 use Rattle.table.specs.Check.{refusalsTo, ChecksTo}
 use Rattle.table.proofs.CheckingTo.{sound, checks-given, checks-none}
 use Rattle.encoding.specs.Encoding.{put}
-use Rattle.expansion.specs.Expansion.{size3, table3, expansion, expandedCount, tooLarge}
+use Rattle.expansion.specs.Expansion.{baseCount, baseTable, expansion, expandedCount, tooLarge}
 use Rattle.expansion.proofs.Theorems.{length-table}
 use Rattle.expand.specs.declared.Expansion.{Expansion}
 use Rattle.expand.specs.Expands.{expandRefusals, Expands}
@@ -55,11 +55,11 @@ module _ (s d : List ℕ) where
 -- ---- of a derived table
 
 module _ (s : List ℕ) (derived : isDerived s ≡ true) where
-  expansion-is : expansion s ≡ table3 s
+  expansion-is : expansion s ≡ baseTable s
   unfolding expansion
   expansion-is = rw (eq-eqb (version s) 3 (version-three s derived))
 
-  long-is : length (expansion s) ≡ 4 * size3 s + 6
+  long-is : length (expansion s) ≡ 4 * baseCount s + 6
   long-is = ap length expansion-is ∙ length-table s
 
   module _ (e : List ℕ) (r : Expansion) (e′ : List ℕ) (h : Opens s none e r e′) where
@@ -98,7 +98,7 @@ module _ (s : List ℕ) (derived : isDerived s ≡ true) where
             let a = long-is in
             let b = length-table s in
             let t : take (4 * r .count + 6) e′ ≡ expansion s =
-            ap (take (4 * r .count + 6)) (h .bytes z) ∙ take-at (table3 s) (drop (0 + length (table3 s)) e) (4 * r .count + 6) (omega arith) ∙ sym expansion-is in
+            ap (take (4 * r .count + 6)) (h .bytes z) ∙ take-at (baseTable s) (drop (0 + length (baseTable s)) e) (4 * r .count + 6) (omega arith) ∙ sym expansion-is in
             record {
               answer = passed s d (both .0) few (omega arith) (r .verdict) z (both .1);
               accepted = λ _. (c ∙ sym (counted s derived), put-first s d (expansion s) d′ (f ∙ ap (put d 0) t));

@@ -18,7 +18,7 @@ use Rattle.nodes.specs.Nodes.{sortAt, root}
 use Rattle.nodes.proofs.Built.{Built}
 use Rattle.table.specs.Check.{refusalsTo, ChecksTo}
 use Rattle.table.proofs.CheckingTo.{sound, checks-given}
-use Rattle.expansion.specs.Expansion.{size3, expandedCount, tooLarge}
+use Rattle.expansion.specs.Expansion.{baseCount, expandedCount, tooLarge}
 use Rattle.expansion.specs.Formed.{Formed}
 use Rattle.expand.specs.declared.Expansion.{Expansion}
 use Rattle.expand.specs.Opens.{isDerived, refusedExpansion, Unfolds, openRefusals, Opens}
@@ -33,7 +33,7 @@ module _ (s : List ℕ) (derived : isDerived s ≡ true) where
       go true e = absurd (true≢false (sym e))
       go false e = eqb-true (version s) 3 e
 
-  pub counted : expandedCount s ≡ size3 s
+  pub counted : expandedCount s ≡ baseCount s
   unfolding expandedCount
   counted = rw (eq-eqb (version s) 3 version-three)
 
@@ -98,7 +98,7 @@ module _ (s : List ℕ) (derived : isDerived s ≡ true) where
             unfolding openRefusals Answers
             large l r e =
                 let many : 120 < expandedCount s =
-                ⊎-elim (λ (g : 120 < size3 s). let a = counted in omega arith) (λ (g : size3 s ≤ 120). absurd (let a = u .count g in let b : ⊥ = omega arith in b)) (side 120 (size3 s)) in
+                ⊎-elim (λ (g : 120 < baseCount s). let a = counted in omega arith) (λ (g : baseCount s ≤ 120). absurd (let a = u .count g in let b : ⊥ = omega arith in b)) (side 120 (baseCount s)) in
                 rw e (record {
                   answer = answers-beyond (refusalsTo newest s) (drop 9 (openRefusals s wrong)) _ passes (inr (right-root, inl (refl, (refl, many))));
                   count = λ y. absurd (let a : ⊥ = omega arith in a);
@@ -112,8 +112,8 @@ module _ (s : List ℕ) (derived : isDerived s ≡ true) where
             pub opened : m ≤ 120 → Opens s wrong d (record { verdict = v; count = m }) d′
             unfolding openRefusals Answers
             opened l =
-                let few : size3 s ≤ 120 =
-                ⊎-elim (λ (g : 120 < size3 s). absurd (let a = u .over g in let b : ⊥ = omega arith in b)) (λ (g : size3 s ≤ 120). g) (side 120 (size3 s)) in
+                let few : baseCount s ≤ 120 =
+                ⊎-elim (λ (g : 120 < baseCount s). absurd (let a = u .over g in let b : ⊥ = omega arith in b)) (λ (g : baseCount s ≤ 120). g) (side 120 (baseCount s)) in
                 let small : (k : ℕ) → ¬ ((k ≡ 0) × (120 < expandedCount s)) = λ k y. let g = y .1 in let a = counted in omega arith in
                 record {
                   answer = answers-beyond (refusalsTo newest s) (drop 9 (openRefusals s wrong)) v passes (inr (right-root, inr (small, (z, none-given (refusalsTo newest s) tt v z c .1))));

@@ -13,7 +13,7 @@ use Rattle.expansion.specs.Forms.{Form, size, written}
 use Rattle.expansion.specs.Booleans.{numberOf, booleansBelow}
 use Rattle.expansion.specs.Nodes.{formOf}
 use Rattle.expansion.specs.Formed.{Formed, NumberedBelow}
-use Rattle.expansion.specs.Expansion.{size3, nodes3, table3}
+use Rattle.expansion.specs.Expansion.{baseCount, baseNodes, baseTable}
 use Rattle.expansion.proofs.Numbering.{number-le, length-booleans}
 use Rattle.firsts.specs.Firsts.{FirstsPut}
 use Rattle.pieces.specs.declared.Piece.the-variants.{NodeOf}
@@ -46,7 +46,7 @@ module _ (s : List ℕ) (n : ℕ) (formed : Formed s n) (en : n ≡ count s) (so
       unfolding pieceForm
       form-is = ap (formOf s) root-is
 
-      counted : first + size (pieceForm (formOf s) (NodeOf (n - 1))) + 0 ≡ size3 s
+      counted : first + size (pieceForm (formOf s) (NodeOf (n - 1))) + 0 ≡ baseCount s
       counted = let e : first ≡ numberOf s (count s) = h .count ∙ ap (numberOf s) en in let z = ap size form-is in omega arith
 
       -- more than 120
@@ -57,7 +57,7 @@ module _ (s : List ℕ) (n : ℕ) (formed : Formed s n) (en : n ≡ count s) (so
         over = λ g. p .over (let c = counted in omega arith);
       }
         where
-          none : size3 s ≤ 120 → ⊥
+          none : baseCount s ≤ 120 → ⊥
           none g = let c = counted in let e = p .next (omega arith) in omega arith
 
       -- the booleans and the form
@@ -65,7 +65,7 @@ module _ (s : List ℕ) (n : ℕ) (formed : Formed s n) (en : n ≡ count s) (so
         fits : first + size (pieceForm (formOf s) (NodeOf (n - 1))) + 0 ≤ 120
         fits = roomy p l
 
-        nodes : d₂ ≡ putNodes d 0 (nodes3 s)
+        nodes : d₂ ≡ putNodes d 0 (baseNodes s)
         nodes =
             let c = counted in
             let e : first ≡ numberOf s (count s) = h .count ∙ ap (numberOf s) en in
@@ -81,14 +81,14 @@ module _ (s : List ℕ) (n : ℕ) (formed : Formed s n) (en : n ≡ count s) (so
             ∙ ap (put d (4 * 0 + 6)) (sym (encoded-append us (written (numberOf s (count s)) f)))
 
         pub unfolds : (d₃ : List ℕ) → d₃ ≡ put d₂ 0 (heading 2 0 m) → Unfolds s d m d₃
-        unfolding table3
+        unfolding baseTable
         unfolds d₃ e₃ =
             let c = counted in
-            let e : m ≡ size3 s = p .next fits ∙ (let z = counted in omega arith) in
+            let e : m ≡ baseCount s = p .next fits ∙ (let z = counted in omega arith) in
             record {
               count = λ _. e;
               bytes = λ _.
-                  e₃ ∙ ap (λ (i : ℕ). put d₂ 0 (heading 2 0 i)) e ∙ ap (λ (u : List ℕ). put u 0 (heading 2 0 (size3 s))) nodes
-                  ∙ put-before d (heading 2 0 (size3 s)) (encoded (nodes3 s)) (omega arith);
+                  e₃ ∙ ap (λ (i : ℕ). put d₂ 0 (heading 2 0 i)) e ∙ ap (λ (u : List ℕ). put u 0 (heading 2 0 (baseCount s))) nodes
+                  ∙ put-before d (heading 2 0 (baseCount s)) (encoded (baseNodes s)) (omega arith);
               over = λ g. absurd (let b = fits in let z : ⊥ = omega arith in z);
             }

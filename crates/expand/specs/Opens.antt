@@ -12,7 +12,7 @@ use Rattle.nodes.specs.Operators.{newest}
 use Rattle.nodes.specs.Nodes.{sortAt, root}
 use Rattle.table.specs.Check.{refusalsTo}
 use Rattle.encoding.specs.Encoding.{put}
-use Rattle.expansion.specs.Expansion.{size3, table3, tooLarge}
+use Rattle.expansion.specs.Expansion.{baseCount, baseTable, tooLarge}
 use Rattle.expand.specs.declared.Expansion.{Expansion}
 
 -- six bytes or more, and version 3
@@ -21,9 +21,9 @@ isDerived s = not (ltb (length s) 6) && eqb (version s) 3
 
 -- the expansion of s is written into d, where it has at most 120 nodes; r is its count
 pub record Unfolds (s d : List ℕ) (r : ℕ) (d′ : List ℕ) : Type 0 where
-  pub count : size3 s ≤ 120 → r ≡ size3 s
-  pub bytes : size3 s ≤ 120 → d′ ≡ put d 0 (table3 s)
-  pub over : 120 < size3 s → r ≡ 121
+  pub count : baseCount s ≤ 120 → r ≡ baseCount s
+  pub bytes : baseCount s ≤ 120 → d′ ≡ put d 0 (baseTable s)
+  pub over : 120 < baseCount s → r ≡ 121
 
 -- a refusal: its number and node, with count 0
 abbrev pub refusedExpansion : ℕ → ℕ → Expansion
@@ -36,8 +36,8 @@ openRefusals s wrong = refusalsTo newest s ++ (when 12 (sortAt s (root s) ≡ wr
 pub record Opens (s : List ℕ) (wrong : ℕ) (d : List ℕ) (r : Expansion) (d′ : List ℕ) : Type 0 where
   pub answer : Answers (openRefusals s wrong) (r .verdict)
   -- the expansion is in the first bytes lent
-  pub count : r .verdict .number ≡ 0 → r .count ≡ size3 s
-  pub few : r .verdict .number ≡ 0 → size3 s ≤ 120
-  pub bytes : r .verdict .number ≡ 0 → d′ ≡ put d 0 (table3 s)
+  pub count : r .verdict .number ≡ 0 → r .count ≡ baseCount s
+  pub few : r .verdict .number ≡ 0 → baseCount s ≤ 120
+  pub bytes : r .verdict .number ≡ 0 → d′ ≡ put d 0 (baseTable s)
   pub refused : ¬ (r .verdict .number ≡ 0) → r .count ≡ 0
   pub low : r .count ≤ 120

@@ -14,7 +14,7 @@ use Rattle.nodes.proofs.Placing.{unused}
 use Rattle.table.specs.Check.{Checks}
 use Rattle.table.proofs.CheckingTo.{SoundTo}
 use Rattle.table.proofs.Checking.{made-checks}
-use Rattle.expansion.specs.Expansion.{booleans, size3, table3}
+use Rattle.expansion.specs.Expansion.{booleans, baseCount, baseTable}
 use Rattle.expansion.proofs.Standing.{typed-some}
 use Rattle.expansion.proofs.Truths.{first-boolean}
 use Rattle.expansion.proofs.Table.{version-table, length-table, lies-booleans, lies-form}
@@ -27,9 +27,9 @@ use Rattle.expansion.proofs.Tallies.{form-once}
 
 module _ (s : List ℕ) (ok : Built s) where
   abbrev t : List ℕ
-  t = table3 s
+  t = baseTable s
 
-  new-fit : (q : ℕ) → q < size3 s → WellFormed t q
+  new-fit : (q : ℕ) → q < baseCount s → WellFormed t q
   new-fit q l =
       ⊎-elim (λ (u : q < booleans s). boolean-fit s (count s) (ok .fit) t (version-table s) (lies-booleans s) q u)
       (λ (u : booleans s ≤ q). form-fit t (version-table s) (booleans s) (top-typed s ok) (booleans s) (lies-form s) (omega arith) q u l)
@@ -38,11 +38,11 @@ module _ (s : List ℕ) (ok : Built s) where
   top-sort : sortAt t (root t) ≡ sortAt s (root s)
   top-sort =
       let h = root-heavy ok in
-      let o = operand t (version-table s) (booleans s) (top-typed s ok) (booleans s) (size3 s) 1 (lies-form s) (omega arith) (omega arith) (λ z. omega arith) in
+      let o = operand t (version-table s) (booleans s) (top-typed s ok) (booleans s) (baseCount s) 1 (lies-form s) (omega arith) (omega arith) (λ z. omega arith) in
       ap (sortAt t) (sym (root-at s ok)) ∙ o .sorted (λ z. omega arith)
 
   -- a sequence or a property lies past the booleans, and is a node of the form
-  once-new : (q : ℕ) → suc q < size3 s → sequence ≤ sortAt t q → usesOf t q (size3 s) ≡ 1
+  once-new : (q : ℕ) → suc q < baseCount s → sequence ≤ sortAt t q → usesOf t q (baseCount s) ≡ 1
   once-new q l h =
       ⊎-elim (λ (u : q < booleans s). absurd (let e = first-boolean s (count s) t (lies-booleans s) q u in let z : ⊥ = omega arith in z))
       (λ (u : booleans s ≤ q).
@@ -50,8 +50,8 @@ module _ (s : List ℕ) (ok : Built s) where
       form-once t q (booleans s) u (top-typed s ok) (root-heavy ok) (booleans s) (lies-form s) u l z)
       (side q (booleans s))
 
-  built : size3 s ≤ 120 → Built t
-  unfolding table3
+  built : baseCount s ≤ 120 → Built t
+  unfolding baseTable
   built h = record {
     some = let p = typed-some (top-typed s ok) (root-heavy ok) in omega arith;
     few = h;
@@ -63,8 +63,8 @@ module _ (s : List ℕ) (ok : Built s) where
 
 -- ---- so it is accepted
 
-pub expanded-checks : (s : List ℕ) → SoundTo newest s → size3 s ≤ 120 → Checks (table3 s) accepted
-unfolding table3
+pub expanded-checks : (s : List ℕ) → SoundTo newest s → baseCount s ≤ 120 → Checks (baseTable s) accepted
+unfolding baseTable
 expanded-checks s sound h =
     let ok = sound .formed in
-    made-checks s sound (table3 s) (λ r. r) (λ P. P) (keeps-sequence s ok) (keeps-property s ok) (λ P a. a) refl (omega arith, omega arith) (built s ok h)
+    made-checks s sound (baseTable s) (λ r. r) (λ P. P) (keeps-sequence s ok) (keeps-property s ok) (λ P a. a) refl (omega arith, omega arith) (built s ok h)

@@ -15,7 +15,7 @@ use Rattle.nodes.proofs.Built.{Built}
 use Rattle.table.specs.Trees.{RootS, RootP}
 use Rattle.table.specs.Check.{refusals, ChecksTo, Checks}
 use Rattle.table.proofs.CheckingTo.{sound, checks-given, checks-none}
-use Rattle.expansion.specs.Expansion.{size3, table3, expansion, expandedCount}
+use Rattle.expansion.specs.Expansion.{baseCount, baseTable, expansion, expandedCount}
 use Rattle.expansion.proofs.Rooting.{keeps-sequence, keeps-property}
 use Rattle.expansion.proofs.Accepting.{expanded-checks}
 
@@ -29,16 +29,16 @@ old-checks s c z =
 
 module _ (s : List ℕ) where
   -- what holds of the table that a version 3 table is expanded to, and of an older table, holds of the expansion
-  either-way : (P : List ℕ → ℕ → Type 0) → (version s ≡ 3 → P (table3 s) (size3 s)) → (¬ (version s ≡ 3) → P s (count s)) → P (expansion s) (expandedCount s)
+  either-way : (P : List ℕ → ℕ → Type 0) → (version s ≡ 3 → P (baseTable s) (baseCount s)) → (¬ (version s ≡ 3) → P s (count s)) → P (expansion s) (expandedCount s)
   unfolding expansion expandedCount
   either-way P f g = go (eqb (version s) 3) refl
     where
-      go : (b : Bool) → eqb (version s) 3 ≡ b → P (cond b (table3 s) s) (cond b (size3 s) (count s))
+      go : (b : Bool) → eqb (version s) 3 ≡ b → P (cond b (baseTable s) s) (cond b (baseCount s) (count s))
       go true e = f (eqb-true (version s) 3 e)
       go false e = g (eqb-false (version s) 3 e)
 
   pub expansion-count : count (expansion s) ≡ expandedCount s
-  unfolding table3
+  unfolding baseTable
   expansion-count = either-way (λ t n. count t ≡ n) (λ e. refl) (λ e. refl)
 
   pub expansion-sequence : Built s → (r : Seq Atom) → RootS s r → RootS (expansion s) r

@@ -15,14 +15,14 @@ use Rattle.table.proofs.Standing.{sequence-in, property-in}
 use Rattle.table.proofs.CheckingTo.{sorts}
 use Rattle.expansion.specs.Forms.{Form, size, named}
 use Rattle.expansion.specs.Nodes.{formOf}
-use Rattle.expansion.specs.Expansion.{booleans, table3}
+use Rattle.expansion.specs.Expansion.{booleans, baseTable}
 use Rattle.expansion.proofs.Standing.{First, Typed, Stands, typed-some, typed-last}
 use Rattle.expansion.proofs.Trees.{sequence-stands, property-stands}
 use Rattle.expansion.proofs.Table.{count-table, lies-booleans, lies-form}
 
 -- the booleans of the expanded table
 abbrev pub InTable : List ℕ → ℕ → Type 0
-InTable s = First (table3 s) (booleans s)
+InTable s = First (baseTable s) (booleans s)
 
 -- ---- the form of a sequence or a property node has the node's sort, and so at least one node
 
@@ -33,10 +33,10 @@ module _ (s : List ℕ) (fit : (k : ℕ) → k < count s → WellFormed s k) (k 
       ⊎-elim
       (λ e.
       let (r, d) = sequence-in s (count s) fit (count s) k l l e in
-      subst (λ (sort : ℕ). Typed B sort (formOf s k)) (sym e) (sequence-stands s (count s) fit (table3 s) (lies-booleans s) l d .typed))
+      subst (λ (sort : ℕ). Typed B sort (formOf s k)) (sym e) (sequence-stands s (count s) fit (baseTable s) (lies-booleans s) l d .typed))
       (λ e.
       let (P, d) = property-in s (count s) fit (count s) k l l e in
-      subst (λ (sort : ℕ). Typed B sort (formOf s k)) (sym e) (property-stands s (count s) fit (table3 s) (lies-booleans s) l d .typed))
+      subst (λ (sort : ℕ). Typed B sort (formOf s k)) (sym e) (property-stands s (count s) fit (baseTable s) (lies-booleans s) l d .typed))
       (sorts s k (fit k l) (λ e. omega arith))
 
   pub form-some : 1 ≤ size (formOf s k)
@@ -46,7 +46,7 @@ module _ (s : List ℕ) (fit : (k : ℕ) → k < count s → WellFormed s k) (k 
 
 module _ (s : List ℕ) (ok : Built s) where
   abbrev t : List ℕ
-  t = table3 s
+  t = baseTable s
 
   -- the root's form
   abbrev pub top : Form

@@ -13,45 +13,45 @@ use Rattle.encoding.proofs.Reading.{raw-of}
 use Rattle.expansion.specs.Forms.{written}
 use Rattle.expansion.specs.Booleans.{booleansBelow}
 use Rattle.expansion.specs.Nodes.{formOf}
-use Rattle.expansion.specs.Expansion.{booleans, size3, nodes3, table3}
+use Rattle.expansion.specs.Expansion.{booleans, baseCount, baseNodes, baseTable}
 use Rattle.expansion.proofs.Numbering.{length-booleans}
 use Rattle.expansion.proofs.Lying.{length-written, Lies, lies-left, lies-right}
 
 module _ (s : List ℕ) where
-  pub length-nodes : length (nodes3 s) ≡ size3 s
+  pub length-nodes : length (baseNodes s) ≡ baseCount s
   length-nodes =
       length-append (booleansBelow s (count s)) (written (booleans s) (formOf s (root s)))
       ∙ (λ i. length-booleans s (count s) i + length-written (formOf s (root s)) (booleans s) i)
 
-  pub version-table : version (table3 s) ≡ 2
-  unfolding table3
+  pub version-table : version (baseTable s) ≡ 2
+  unfolding baseTable
   version-table = refl
 
-  pub count-table : count (table3 s) ≡ size3 s
-  unfolding table3
+  pub count-table : count (baseTable s) ≡ baseCount s
+  unfolding baseTable
   count-table = refl
 
-  pub length-table : length (table3 s) ≡ 4 * size3 s + 6
-  unfolding table3
+  pub length-table : length (baseTable s) ≡ 4 * baseCount s + 6
+  unfolding baseTable
   length-table =
-      let a = length-append (heading 2 0 (size3 s)) (encoded (nodes3 s)) in
-      let b = length-encoded (nodes3 s) in
+      let a = length-append (heading 2 0 (baseCount s)) (encoded (baseNodes s)) in
+      let b = length-encoded (baseNodes s) in
       let c = length-nodes in
       omega arith
 
   -- ---- its nodes
 
-  pub raw-table : (q : ℕ) → q < size3 s → rawAt (table3 s) q ≡ getD (nodes3 s) q blank
-  unfolding table3
-  raw-table q l = let e = length-nodes in raw-of 2 0 (size3 s) (nodes3 s) q (omega arith)
+  pub raw-table : (q : ℕ) → q < baseCount s → rawAt (baseTable s) q ≡ getD (baseNodes s) q blank
+  unfolding baseTable
+  raw-table q l = let e = length-nodes in raw-of 2 0 (baseCount s) (baseNodes s) q (omega arith)
 
-  lies-nodes : Lies (table3 s) 0 (nodes3 s)
-  lies-nodes i l = let e = length-nodes in ap (rawAt (table3 s)) (zero-add i) ∙ raw-table i (omega arith)
+  lies-nodes : Lies (baseTable s) 0 (baseNodes s)
+  lies-nodes i l = let e = length-nodes in ap (rawAt (baseTable s)) (zero-add i) ∙ raw-table i (omega arith)
 
-  pub lies-booleans : Lies (table3 s) 0 (booleansBelow s (count s))
-  lies-booleans = lies-left (table3 s) 0 (booleansBelow s (count s)) (written (booleans s) (formOf s (root s))) lies-nodes
+  pub lies-booleans : Lies (baseTable s) 0 (booleansBelow s (count s))
+  lies-booleans = lies-left (baseTable s) 0 (booleansBelow s (count s)) (written (booleans s) (formOf s (root s))) lies-nodes
 
-  pub lies-form : Lies (table3 s) (booleans s) (written (booleans s) (formOf s (root s)))
+  pub lies-form : Lies (baseTable s) (booleans s) (written (booleans s) (formOf s (root s)))
   lies-form =
-      subst (λ (q : ℕ). Lies (table3 s) q (written (booleans s) (formOf s (root s)))) (zero-add _ ∙ length-booleans s (count s))
-      (lies-right (table3 s) 0 (booleansBelow s (count s)) (written (booleans s) (formOf s (root s))) lies-nodes)
+      subst (λ (q : ℕ). Lies (baseTable s) q (written (booleans s) (formOf s (root s)))) (zero-add _ ∙ length-booleans s (count s))
+      (lies-right (baseTable s) 0 (booleansBelow s (count s)) (written (booleans s) (formOf s (root s))) lies-nodes)

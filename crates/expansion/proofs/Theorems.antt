@@ -13,32 +13,32 @@ use Rattle.nodes.proofs.Built.{Built}
 use Rattle.table.specs.Trees.{RootS, RootP}
 use Rattle.table.specs.Check.{ChecksTo, Checks}
 use Rattle.table.proofs.CheckingTo.{SoundTo}
-use Rattle.expansion.specs.Expansion.{size3, table3, expansion, expandedCount}
+use Rattle.expansion.specs.Expansion.{baseCount, baseTable, expansion, expandedCount}
 use Rattle.expansion.proofs.Table as table
 use Rattle.expansion.proofs.Rooting as root
 use Rattle.expansion.proofs.Accepting as accepting
 use Rattle.expansion.proofs.AnyVersion as any
 
 module _ (s : List ℕ) where
-  pub version-table : version (table3 s) ≡ 2
+  pub version-table : version (baseTable s) ≡ 2
   version-table = table.version-table s
 
-  pub count-table : count (table3 s) ≡ size3 s
+  pub count-table : count (baseTable s) ≡ baseCount s
   count-table = table.count-table s
 
-  pub length-table : length (table3 s) ≡ 4 * size3 s + 6
+  pub length-table : length (baseTable s) ≡ 4 * baseCount s + 6
   length-table = table.length-table s
 
   -- of a table that gets none of refusals 4 to 8
   module _ (ok : Built s) where
-    pub keeps-sequence : (r : Seq Atom) → RootS s r → RootS (table3 s) r
+    pub keeps-sequence : (r : Seq Atom) → RootS s r → RootS (baseTable s) r
     keeps-sequence = root.keeps-sequence s ok
 
-    pub keeps-property : (P : Prop Atom) → RootP s P → RootP (table3 s) P
+    pub keeps-property : (P : Prop Atom) → RootP s P → RootP (baseTable s) P
     keeps-property = root.keeps-property s ok
 
   -- of a table that is accepted
-  pub expanded-checks : SoundTo newest s → size3 s ≤ 120 → Checks (table3 s) accepted
+  pub expanded-checks : SoundTo newest s → baseCount s ≤ 120 → Checks (baseTable s) accepted
   expanded-checks sound h = accepting.expanded-checks s sound h
 
   -- ---- and of the expansion of a table of any version, which is the table itself where it is older than 3

@@ -13,27 +13,27 @@ use Rattle.expansion.specs.Booleans.{numberOf, booleansBelow}
 use Rattle.expansion.specs.Nodes.{formOf}
 
 module _ (s : List ℕ) where
-  -- how many booleans the new table has, and how many nodes
+  -- how many booleans and how many base nodes a version 3 table is turned into
   abbrev pub booleans : ℕ
   booleans = numberOf s (count s)
 
-  abbrev pub size3 : ℕ
-  size3 = booleans + size (formOf s (root s))
+  abbrev pub baseCount : ℕ
+  baseCount = booleans + size (formOf s (root s))
 
   -- first all booleans, then the root's form
-  abbrev pub nodes3 : List Raw
-  nodes3 = booleansBelow s (count s) ++ written booleans (formOf s (root s))
+  abbrev pub baseNodes : List Raw
+  baseNodes = booleansBelow s (count s) ++ written booleans (formOf s (root s))
 
-  -- a table of version 2
-  unfoldable pub table3 : List ℕ
-  table3 = heading 2 0 size3 ++ encoded nodes3
+  -- as a version 2 table
+  unfoldable pub baseTable : List ℕ
+  baseTable = heading 2 0 baseCount ++ encoded baseNodes
 
   -- the expansion of a table of any version, and its count
   unfoldable pub expansion : List ℕ
-  expansion = cond (eqb (version s) 3) table3 s
+  expansion = cond (eqb (version s) 3) baseTable s
 
   unfoldable pub expandedCount : ℕ
-  expandedCount = cond (eqb (version s) 3) size3 (count s)
+  expandedCount = cond (eqb (version s) 3) baseCount (count s)
 
   -- expanded count over 120
   abbrev pub tooLarge : Refusal

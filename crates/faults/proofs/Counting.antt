@@ -6,10 +6,11 @@ use borrow.Author.Tests.{eqb-true, eqb-false, ltb-false, ne-eqb}
 use mathlib.Core.Path.{_≡_, refl, _∙_, sym, ap}
 use mathlib.Core.Bool.{Bool, true, false, cond}
 use mathlib.Core.List.{List}
-use Prim.Native.Nat.{ℕ, zero, suc, _+_, _*_, _<_, _≤_}
+use Prim.Native.Nat.{ℕ, _+_, _*_, _<_, _≤_}
 use lib.Dec.{eqb, ltb}
 use lib.ListN.{length, getD, set, length-set, replicate}
 use lib.Seq.{getD-set-same, getD-set-other}
+use Rattle.telling.proofs.Filled.{filled}
 use Rattle.nodes.specs.declared.operators.Row.{Row}
 use Rattle.nodes.specs.declared.Raw.{Raw}
 use Rattle.nodes.specs.Operators.{none, rowOf}
@@ -73,12 +74,6 @@ module _ (s : List ℕ) (j x y : ℕ) (uses : List ℕ) (long : length uses ≡ 
       go true false e = let h = b k in omega arith
       go false true e = let h = b k in omega arith
       go false false e = let h = b k in omega arith
-
--- an array filled with its default
-pub filled : {A : Type 0} (a : A) (n k : ℕ) → getD (replicate n a) k a ≡ a
-filled a zero k = refl
-filled a (suc n) zero = refl
-filled a (suc n) (suc k) = filled a n k
 
 pub nothing-counted : (s : List ℕ) → Counted s 0 (replicate 121 0)
 unfolding Counted usesOf

@@ -12,6 +12,7 @@ use lib.Dec.{ltb}
 use lib.ListN.{length, length-append, take, getD, set, replicate, List·getD-eq-default, List·getD-append}
 use lib.Seq.{getD-at, take-suc-set, getD-take, getD-set-other}
 use Rattle.telling.proofs.Telling.{side}
+use Rattle.telling.proofs.Filled.{filled}
 use Rattle.refusal.specs.Computed.{first}
 use Rattle.refusal.proofs.Firsts.{on, found}
 use Rattle.nodes.specs.declared.Raw.{Raw}
@@ -21,7 +22,6 @@ use Rattle.nodes.specs.Operators.{nodeOf, Decodes}
 use Rattle.nodes.specs.Nodes.{rawAt, nodeAt}
 use Rattle.hollows.specs.Flags.{nothing, topsAt, nodeTops, topsBelow, hollowNode, hollow}
 use Rattle.nodes.specs.Computed.{namedBy}
-use Rattle.faults.proofs.Counting.{filled}
 
 -- ---- the flags of each node, from those of the nodes below
 

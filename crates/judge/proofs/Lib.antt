@@ -9,5 +9,3 @@ pub mod Unique
 -- The demands, and that the answers on tables of version 1 stay.
 pub mod Demands
 pub mod VersionOne
--- What the flag comes to.
-pub mod Flag

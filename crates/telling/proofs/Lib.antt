@@ -1,2 +1,3 @@
 -- Laws that the proofs of the crates above cite.
 pub mod Telling
+pub mod Filled

@@ -7,10 +7,11 @@ use Prim.Native.Nat.{ℕ, zero, suc, _+_, _-_, _^_, _<_, _≤_}
 use native.Mathlib.Omega.{arith}
 use native.Mathlib.Nat.{eq-or-lt-of-le, le-of-suc-le-suc, not-suc-le-zero}
 use native.Mathlib.Numerals.{add-one}
-use lib.ListN.{length, getD, set, replicate, length-append, length-set, getD-replicate, List·getD-append, List·getD-eq-default}
+use lib.ListN.{length, getD, set, replicate, length-append, length-set, List·getD-append, List·getD-eq-default}
 use lib.Seq.{getD-at, getD-set-same, getD-set-other}
 use Rattle.telling.specs.Tells.{some}
 use Rattle.telling.proofs.Telling.{side}
+use Rattle.telling.proofs.Filled.{filled}
 use Rattle.positions.specs.Member.{has, Is}
 use Rattle.refusal.specs.Heading.{count}
 use Rattle.nodes.specs.declared.Raw.{Raw}
@@ -129,7 +130,7 @@ module _ (s clocks numbers rows : List ℕ) (n : ℕ) where
 
   pub kept-none : Kept 0 (replicate 121 0)
   unfolding setsBelow
-  kept-none = record { long = refl; have = λ j. ⊎-elim (getD-replicate 121 j 0 0) (λ l. List·getD-eq-default (replicate 121 0) 0 l) (side j 121) }
+  kept-none = record { long = refl; have = filled 0 121 }
 
   -- all nodes have their sets: the root's is the last
   pub kept-all : (k : ℕ) (sets : List ℕ) → Kept k sets → (m : ℕ) → m ≡ count s → k ≤ m → m ≤ k → (r : Bool) → r ≡ has (getD sets (m - 1) 0) 0 → r ≡ testedIn s clocks numbers rows n

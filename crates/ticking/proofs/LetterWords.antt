@@ -7,11 +7,12 @@ use Prim.Native.Nat.{ℕ, _+_, _-_, _^_, _≤_, _<_}
 use native.Mathlib.Omega.{arith}
 use native.Mathlib.Nat.{eq-or-lt-of-le}
 use lib.Dec.{T, T-not, eqb, leb}
-use lib.ListN.{length, getD, set, length-set, replicate, getD-replicate, List·getD-eq-default}
+use lib.ListN.{length, getD, set, length-set, replicate}
 use lib.Seq.{getD-set-same, getD-set-other}
 use borrow.Author.Tests.{le-leb, lt-leb, ne-eqb}
 use Rattle.telling.specs.Tells.{Tells}
 use Rattle.telling.proofs.Telling.{is-map, is-as, is-and, is-eq, is-le, is-test, same-test, fails, passed, side}
+use Rattle.telling.proofs.Filled.{filled}
 use Rattle.positions.specs.Member.{has, Is, Lowest}
 use Rattle.positions.proofs.Laws.{collected}
 use Rattle.cells.specs.Shares.{share, longest}
@@ -71,7 +72,7 @@ pub record Lettered (b t i : ℕ) (out : List ℕ) : Type 0 where
   pub rest : (m : ℕ) → i ≤ m → getD out m 0 ≡ 0
 
 pub lettered-none : (b t : ℕ) → Lettered b t 0 (replicate 65 0)
-lettered-none b t = record { long = refl; word = λ m l. absurd (omega arith); rest = λ m l. ⊎-elim (getD-replicate 65 m 0 0) (λ l. List·getD-eq-default (replicate 65 0) 0 l) (side m 65) }
+lettered-none b t = record { long = refl; word = λ m l. absurd (omega arith); rest = λ m l. filled 0 65 m }
 
 pub lettered-more : (b t i : ℕ) (out : List ℕ) (v : ℕ) → i < share → v ≡ set64 (letterBit (has b) (has t) i) → Lettered b t i out → Lettered b t (i + 1) (set out i v)
 lettered-more b t i out v l e h = record {
