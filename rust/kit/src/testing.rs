@@ -39,6 +39,11 @@ pub fn table_2<const BYTES: usize>(nodes: &[[u8; BYTES]]) -> Vec<u8> {
     table_of_version(2, nodes)
 }
 
+/// The same with version 3.
+pub fn table_3<const BYTES: usize>(nodes: &[[u8; BYTES]]) -> Vec<u8> {
+    table_of_version(3, nodes)
+}
+
 /// A table as version 2, in which some of the signals rise or fall.
 pub fn rising(table: &[u8], seed: u64) -> Vec<u8> {
     let (mut table, random) = (table.to_vec(), &mut Random(seed));

@@ -57,19 +57,32 @@ fn no_sample_past_13(case: &Case) -> Answer {
     })
 }
 
+/// The wrong side is found out, and what both answer is told.
+fn told(wrong: Side, library: &str, second: &str) {
+    let (difference, text) = found(wrong);
+    assert!(matches!(difference.case, Case::Plain { .. }), "{text}");
+    let said = |name: &str| text.lines().find(|line| line.starts_with(name));
+    assert!(said("library: ").is_some_and(|line| line.contains(library)));
+    assert!(said("second:  ").is_some_and(|line| line.contains(second)));
+}
+
+// A test each, since making a difference past 13 small takes seconds.
 #[test]
-fn a_wrong_plain_judge_is_found() {
-    let sides: [(Side, [&str; 2]); 4] = [
-        (refuses_13, ["refused 13 at 0", "level"]),
-        (ten_before_twelve, ["refused 10 at 0", "refused 12 at 0"]),
-        (always_tested, ["tested yes", "tested no"]),
-        (no_sample_past_13, ["level", "level"]),
-    ];
-    for (wrong, [library, second]) in sides {
-        let (difference, text) = found(wrong);
-        assert!(matches!(difference.case, Case::Plain { .. }), "{text}");
-        let said = |name: &str| text.lines().find(|line| line.starts_with(name));
-        assert!(said("library: ").is_some_and(|line| line.contains(library)));
-        assert!(said("second:  ").is_some_and(|line| line.contains(second)));
-    }
+fn refusing_with_13_as_the_judge_does_is_found() {
+    told(refuses_13, "refused 13 at 0", "level");
+}
+
+#[test]
+fn ten_before_twelve_is_found() {
+    told(ten_before_twelve, "refused 10 at 0", "refused 12 at 0");
+}
+
+#[test]
+fn always_tested_is_found() {
+    told(always_tested, "tested yes", "tested no");
+}
+
+#[test]
+fn a_wrong_level_past_13_is_found() {
+    told(no_sample_past_13, "level", "level");
 }

@@ -55,7 +55,7 @@ Examples:
   $ kit show flush.svt --names flush.txt
   signals ack=0 drop=1 strobe=2
 
-  (ack |-> strong((!drop)[*1:$] ##0 strobe)) until strong(0)
+  always (ack |-> strong((!drop)[*1:$] ##0 strobe))
 
   $ kit show examples/flush-open.svw --names flush.txt
   3 samples

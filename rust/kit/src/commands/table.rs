@@ -33,7 +33,7 @@ signals of a sample by their numbers, 0 to 63, and then says the assertion:
 
   signals ack=0 drop=1 strobe=2
   // from each acknowledge on, the media strobe comes before the supply drops
-  (ack |-> strong((!drop)[*1:$] ##0 strobe)) until strong(0)
+  always (ack |-> strong((!drop)[*1:$] ##0 strobe))
 
 The operators, tightest first, what a signal does, and what makes a property of a sequence:
 
@@ -83,8 +83,8 @@ is said, with what to write to ask it at every sample.
 Example:
 
   $ kit table flush.txt -o flush.svt
-  flush.svt: 15 nodes, 3 signals, a property
-  read as: (ack |-> strong((!drop)[*1:$] ##0 strobe)) until strong(0)
+  flush.svt: version 3, 12 nodes, 15 written out, 3 signals, a property
+  read as: always (ack |-> strong((!drop)[*1:$] ##0 strobe))
 
 The status is 0 when the table is written, 2 for a wrong command line, 3 where the proved check
 refuses the table, and 4 where a file cannot be read or written or the text has a mistake, which is

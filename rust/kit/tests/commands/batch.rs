@@ -172,7 +172,7 @@ fn the_status_says_whether_the_goal_is_reached() {
     try_goal(&["--require=2"], &[&held, &open, &unasked], 1, 2);
     try_goal(&["--require", "3"], &[&held], 1, 0);
     try_goal(&["--tested"], &[&held, &broken], 0, 2);
-    // without an acknowledge strong(0) is reached all the same
+    // without an acknowledge the weak(0) of always is reached all the same
     try_goal(&["--tested"], &[&held, &unasked], 0, 2);
     try_goal(&["--asked"], &[&held, &broken, &open], 0, 3);
     try_goal(&["--asked"], &[&held, &unasked], 1, 1);

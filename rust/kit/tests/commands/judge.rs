@@ -71,7 +71,8 @@ fn tested_asks_for_a_test() {
     assert_eq!(flush("flush-open.svw", &both).status, 1);
 }
 
-/// strong(0) is reached at every sample, so that the record without an acknowledge tests the assertion.
+/// The weak(0) of always is reached at every sample, so that the record without an acknowledge tests the
+/// assertion.
 #[test]
 fn asked_asks_for_every_implication() {
     assert_eq!(flush("flush.svw", &["--asked"]).status, 0);
@@ -147,7 +148,7 @@ fn json_is_one_line_and_has_the_same_status() {
     assert_eq!(said.out.lines().count(), 1);
     let decisive = r#""from":1,"level":0,"turned":false,"closed":3,"matched":null}"#;
     assert!(said.out.contains(r#""levels":[2,2,1,1,0,0],"closed":3,"#));
-    assert!(said.out.contains(r#""decisive":{"node":10,"#));
+    assert!(said.out.contains(r#""decisive":{"node":9,"#));
     assert!(said.out.contains(decisive));
     let folder = Folder::new();
     let said = judge_in(&folder, b"SVT", &record(&[]), &["--json"]);

@@ -1,11 +1,11 @@
 //! `kit table`: what it writes and says, and what it does not take.
-use crate::support::{kit, table, table_2, Folder, Ran};
+use crate::support::{kit, table_2, table_3, Folder, Ran};
 use std::fs;
 
 const FLUSH: &str = "\
 // a flush that is acknowledged is durable
 signals ack=0 drop=1 strobe=2
-(ack |-> strong((!drop)[*1:$] ##0 strobe)) until strong(0)
+always (ack |-> strong((!drop)[*1:$] ##0 strobe))
 ";
 
 #[test]
@@ -15,7 +15,7 @@ fn a_text_becomes_a_table() {
     let Ran { status, out, err } = kit(["table", &text, "-o", &output]);
     assert_eq!((status, err.as_str()), (0, ""));
     let read = FLUSH.lines().last().unwrap();
-    let summary = "15 nodes, 3 signals, a property";
+    let summary = "version 3, 12 nodes, 15 written out, 3 signals, a property";
     assert_eq!(out, format!("{output}: {summary}\nread as: {read}\n"));
     // the nodes of examples/flush.txt, with the booleans in the order of the text
     let nodes = [
@@ -23,19 +23,16 @@ fn a_text_becomes_a_table() {
         [1, 1, 0],
         [2, 1, 0],
         [1, 2, 0],
-        [0, 0, 0],
         [16, 0, 0],
         [16, 2, 0],
-        [21, 6, 0],
+        [21, 5, 0],
         [16, 3, 0],
-        [18, 7, 8],
-        [32, 9, 0],
-        [37, 5, 10],
-        [16, 4, 0],
-        [32, 12, 0],
-        [39, 11, 13],
+        [18, 6, 7],
+        [32, 8, 0],
+        [37, 4, 9],
+        [44, 10, 0],
     ];
-    assert_eq!(fs::read(&output).unwrap(), table(&nodes));
+    assert_eq!(fs::read(&output).unwrap(), table_3(&nodes));
 }
 
 /// A table that older benches cannot read is told apart.
@@ -224,6 +221,10 @@ fn files_that_are_no_texts_have_status_4() {
         ),
         (
             folder.file("t2.txt", b"SVT\x02\x00\x01\x00\x00\x00\x00"),
+            "kit show",
+        ),
+        (
+            folder.file("t3.txt", b"SVT\x03\x00\x01\x00\x00\x00\x00"),
             "kit show",
         ),
     ];

@@ -90,8 +90,8 @@ fn malformed_lines_are_told() {
 
 #[test]
 fn stored_sets_are_moderate_and_whole() {
-    let (cases, answers) = stored(1, 10_000);
-    let count = 10_000 + listed().len();
+    let (cases, answers) = stored(1, 3_000);
+    let count = 3_000 + listed().len();
     assert_eq!(
         (cases.lines().count(), answers.lines().count()),
         (count, count)
@@ -113,7 +113,7 @@ fn stored_sets_are_moderate_and_whole() {
             }
         }
     }
-    assert!(versions.iter().all(|&count| count > 1_200), "{versions:?}");
+    assert!(versions.iter().all(|&count| count > 360), "{versions:?}");
     assert!(m_120 >= 2 && n_63 >= 5, "{m_120} {n_63}");
 }
 

@@ -23,7 +23,7 @@ fn marks(drawn: &[Element]) -> Vec<[Vec<(f64, f64)>; 2]> {
 
 #[test]
 fn a_row_marks_where_it_was_asked_and_where_it_was_only_reached() {
-    // acknowledged at sample 1, which leaves the left side of until waiting: sample 2 is not reached
+    // acknowledged at sample 1, which leaves the operand of always waiting: sample 2 is not reached
     let open = drawn(&flush(&[0, 1, 0]));
     assert_eq!(marks(&open), [[vec![(238.0, 224.0)], vec![(158.0, 224.0)]]]);
     // strobed at once: all are reached

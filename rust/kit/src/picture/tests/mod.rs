@@ -12,7 +12,7 @@ use crate::names::Names;
 use crate::testing::{table, table_2};
 use elements::{elements, Element};
 
-/// (ack |-> strong((!drop)[*1:$] ##0 strobe)) until strong(0)
+/// always (ack |-> strong((!drop)[*1:$] ##0 strobe))
 const FLUSH: &[u8] = include_bytes!("../../../../../examples/flush.svt");
 /// @(c) strong(a ##1 b)
 const P10: &[u8] = include_bytes!("../../../../../examples/p10.svt");

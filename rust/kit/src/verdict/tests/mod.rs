@@ -17,11 +17,14 @@ use crate::engine::{Engine, Engines, Unjudged};
 use crate::names::Names;
 use crate::testing;
 
-/// A table of these nodes, of version 2 where one of them rises or falls.
+/// A table of these nodes, of version 3 where one of them is always, else of version 2 where one rises or
+/// falls.
 fn table(nodes: &[[u8; 3]]) -> Vec<u8> {
-    match nodes.iter().any(|[operator, ..]| [5, 6].contains(operator)) {
-        true => testing::table_2(nodes),
-        false => testing::table(nodes),
+    let has = |known: &[u8]| nodes.iter().any(|[operator, ..]| known.contains(operator));
+    match (has(&[44]), has(&[5, 6])) {
+        (true, _) => testing::table_3(nodes),
+        (false, true) => testing::table_2(nodes),
+        (false, false) => testing::table(nodes),
     }
 }
 

@@ -86,23 +86,20 @@ fn p10_and_p11_see_ticks_alone() {
     check(&nodes, &[5, 2], &[1, 1, 1], None, (6, 0, 1));
 }
 
-/// (ack |-> strong((!drop)[*1:$] ##0 strobe)) until strong(0), as in examples/flush.txt
-const FLUSH: [[u8; 3]; 15] = [
+/// always (ack |-> strong((!drop)[*1:$] ##0 strobe)), as in examples/flush.txt
+const FLUSH: [[u8; 3]; 12] = [
     [1, 0, 0],
     [1, 1, 0],
     [2, 1, 0],
     [1, 2, 0],
-    [0, 0, 0],
     [16, 0, 0],
     [16, 2, 0],
-    [21, 6, 0],
+    [21, 5, 0],
     [16, 3, 0],
-    [18, 7, 8],
-    [32, 9, 0],
-    [37, 5, 10],
-    [16, 4, 0],
-    [32, 12, 0],
-    [39, 11, 13],
+    [18, 6, 7],
+    [32, 8, 0],
+    [37, 4, 9],
+    [44, 10, 0],
 ];
 
 /// The samples of a record in examples/.
@@ -116,24 +113,18 @@ fn flush(record: &str) -> Vec<u64> {
 
 #[test]
 fn an_open_flush_waits_for_the_strobe_from_its_acknowledge_on() {
-    check(
-        &FLUSH,
-        &flush("flush-open"),
-        &[2, 2, 1, 1],
-        None,
-        (10, 1, 1),
-    );
+    check(&FLUSH, &flush("flush-open"), &[2, 2, 1, 1], None, (9, 1, 1));
 }
 
 #[test]
 fn a_broken_flush_is_broken_by_the_drop_at_sample_3() {
     let samples = flush("flush-broken");
-    check(&FLUSH, &samples, &[2, 2, 1, 1, 0, 0], Some(3), (10, 1, 0));
+    check(&FLUSH, &samples, &[2, 2, 1, 1, 0, 0], Some(3), (9, 1, 0));
 }
 
 #[test]
 fn a_good_flush_stays_open_for_the_next_acknowledge() {
     let levels = [2, 2, 1, 1, 2, 2, 2];
-    check(&FLUSH, &flush("flush"), &levels, None, (14, 0, 2));
-    check(&FLUSH, &flush("flush-unasked"), &[2; 4], None, (14, 0, 2));
+    check(&FLUSH, &flush("flush"), &levels, None, (11, 0, 2));
+    check(&FLUSH, &flush("flush-unasked"), &[2; 4], None, (11, 0, 2));
 }

@@ -4,7 +4,7 @@ mod folder;
 mod run;
 pub mod waves;
 
-pub use crate::testing::{rising, table, table_2, Random};
+pub use crate::testing::{rising, table, table_2, table_3, Random};
 pub use files::{example, example_bytes, examples, examples_ending, put, record};
 pub use folder::Folder;
 pub use run::{kit, kit_to, Failing, Ran};
