@@ -99,7 +99,7 @@ xistomar_judgement xistomar_judge(const uint8_t *table, size_t table_bytes, cons
  * on a node's operands: for 120 nodes one above the other it was seen to use 211 KiB of stack on x86-64, so 256 KiB are enough. */
 xistomar_judgement xistomar_plain_judge(const uint8_t *table, size_t table_bytes, const uint64_t *samples, size_t sample_count);
 
-/* The match ends, from a start, of the sequence at the table's root; in a version 2 table the sample before the start still counts. Leaves the rows in the workspace.
+/* The match ends, from a start, of the sequence at the table's root; in a table of version 2 or 3 the sample before the start still counts. Leaves the rows in the workspace.
  * Refusals 1 to 9, 12, 13, 10, 14, 11. */
 xistomar_ends xistomar_match_ends(const uint8_t *table, size_t table_bytes, const uint64_t *samples, size_t sample_count, size_t start,
                                   uint64_t *workspace, size_t workspace_words);

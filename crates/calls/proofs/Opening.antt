@@ -19,18 +19,18 @@ use Rattle.encoding.specs.Encoding.{put}
 use Rattle.expansion.specs.Expansion.{baseTable, expansion}
 use Rattle.expansion.proofs.Theorems.{length-table}
 use Rattle.expand.specs.declared.Expansion.{Expansion}
-use Rattle.expand.specs.Opens.{isDerived, openRefusals, Opens}
+use Rattle.expand.specs.Opens.{hasVersion3, openRefusals, Opens}
 use Rattle.expand.proofs.Opening.{version-three, counted}
 use Rattle.calls.proofs.Taking.{Opened, Taken, as-it-is, expanded}
 
 -- ---- the test of the version
 
-module _ (s : List ℕ) (b : Bool) (e : b ≡ isDerived s) where
+module _ (s : List ℕ) (b : Bool) (e : b ≡ hasVersion3 s) where
   pub older : not b ≡ true → Taken s s
-  unfolding isDerived
+  unfolding hasVersion3
   older h = as-it-is (λ l v. true≢false (sym (rw (le-ltb (length s) 6 l, eq-eqb (version s) 3 v)) ∙ sym e ∙ not-true b h))
 
-  pub derived : not b ≡ false → isDerived s ≡ true
+  pub derived : not b ≡ false → hasVersion3 s ≡ true
   derived h = sym e ∙ not-false b h
 
 -- ---- the bytes of a table that was opened
@@ -45,7 +45,7 @@ module _ (s : List ℕ) (wrong : ℕ) (lent : List ℕ) (r : Expansion) (new : L
   pub long-within : length new ≡ 486 → 4 * r .count + 6 ≤ length new
   long-within e = let l = w .low in omega arith
 
-  module _ (z : r .verdict .number ≡ 0) (b : Bool) (e : b ≡ isDerived s) (h : not b ≡ false) where
+  module _ (z : r .verdict .number ≡ 0) (b : Bool) (e : b ≡ hasVersion3 s) (h : not b ≡ false) where
     opened : Opened s
     unfolding openRefusals
     opened = record {

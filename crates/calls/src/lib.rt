@@ -1,6 +1,6 @@
 // The calls that people use, on tables of versions 1 to 3: a version 3 table is expanded first, and what is refused on the way is answered; the base call has
 // the rest. An older table goes to the base call as it is.
-use expand::is_derived;
+use expand::has_version_3;
 use expand::open;
 use judge::MatchEnds;
 use judgement::Judgement;
@@ -17,7 +17,7 @@ ghost use Rattle.calls.specs.Judges.{Judges, EndsMatches, PlainJudges};
 pub fn rewrite(table: &[u8], out: &mut [u8]) -> Rewriting
     ensures { λ r. ⌜ Rewrites (now (table .entry)) (now (out .entry)) r (now (out .exit)) ⌝ }
 {
-    if !is_derived(table) {
+    if !has_version_3(table) {
         return rewrite::rewrite(table, out);
     }
     let mut new = [0; 486];
@@ -34,7 +34,7 @@ pub fn rewrite(table: &[u8], out: &mut [u8]) -> Rewriting
 pub fn judge(table: &[u8], samples: &[u64], workspace: &mut [u64]) -> Judgement
     ensures { λ r. ⌜ Judges (now (table .entry)) (now (samples .entry)) (now (workspace .entry)) r (now (workspace .exit)) ⌝ }
 {
-    if !is_derived(table) {
+    if !has_version_3(table) {
         return judge::judge(table, samples, workspace);
     }
     let mut new = [0; 486];
@@ -51,7 +51,7 @@ pub fn judge(table: &[u8], samples: &[u64], workspace: &mut [u64]) -> Judgement
 pub fn match_ends(table: &[u8], samples: &[u64], start: usize, workspace: &mut [u64]) -> MatchEnds
     ensures { λ r. ⌜ EndsMatches (now (table .entry)) (now (samples .entry)) (now (workspace .entry)) start r (now (workspace .exit)) ⌝ }
 {
-    if !is_derived(table) {
+    if !has_version_3(table) {
         return judge::match_ends(table, samples, start, workspace);
     }
     let mut new = [0; 486];
@@ -72,7 +72,7 @@ pub fn match_ends(table: &[u8], samples: &[u64], start: usize, workspace: &mut [
 pub fn plain_judge(table: &[u8], samples: &[u64]) -> Judgement
     ensures { λ r. ⌜ PlainJudges (now (table .entry)) (now (samples .entry)) r ⌝ }
 {
-    if !is_derived(table) {
+    if !has_version_3(table) {
         return plain::plain_judge(table, samples);
     }
     let mut new = [0; 486];

@@ -28,7 +28,7 @@ module _ {A : Type 0} where
   abbrev pub later : Seq A → Seq A → ℕ → ℕ → Seq A
   later r s m n = cat (cat r (range (one (const true)) m n)) s
 
-  -- (R ##[0:0] S) ≡ (R ##0 S); let n > 0: (R ##[0:n] S) ≡ ((R ##0 S) or (R ##[1:n] S)). With m > n, which no table has, it is R ##0 S too
+  -- (R ##[0:0] S) ≡ (R ##0 S); let n > 0: (R ##[0:n] S) ≡ ((R ##0 S) or (R ##[1:n] S)). No table has m > n
   unfoldable pub delay : Seq A → Seq A → ℕ → ℕ → Seq A
   delay r s m zero = fuse r s
   delay r s zero (suc n) = alt (fuse r s) (later r s zero n)

@@ -23,7 +23,7 @@ use Rattle.expansion.specs.Expansion.{baseCount, baseTable, expansion, expanded
 use Rattle.expansion.proofs.Theorems.{length-table}
 use Rattle.expand.specs.declared.Expansion.{Expansion}
 use Rattle.expand.specs.Expands.{expandRefusals, Expands}
-use Rattle.expand.specs.Opens.{isDerived, refusedExpansion, openRefusals, Opens}
+use Rattle.expand.specs.Opens.{hasVersion3, refusedExpansion, openRefusals, Opens}
 use Rattle.expand.proofs.Opening.{version-three, counted}
 
 -- ---- a refusal, and an acceptance that leaves the expansion
@@ -54,7 +54,7 @@ module _ (s d : List ℕ) where
 
 -- ---- of a derived table
 
-module _ (s : List ℕ) (derived : isDerived s ≡ true) where
+module _ (s : List ℕ) (derived : hasVersion3 s ≡ true) where
   expansion-is : expansion s ≡ baseTable s
   unfolding expansion
   expansion-is = rw (eq-eqb (version s) 3 (version-three s derived))
@@ -107,7 +107,7 @@ module _ (s : List ℕ) (derived : isDerived s ≡ true) where
 
 -- ---- of an older table
 
-module _ (s : List ℕ) (older : isDerived s ≡ false) (v : Verdict) (c : ChecksTo newest s v) where
+module _ (s : List ℕ) (older : hasVersion3 s ≡ false) (v : Verdict) (c : ChecksTo newest s v) where
   pub refused-table : ¬ (v .number ≡ 0) → (d : List ℕ) (r : Expansion) → r ≡ refusedExpansion (v .number) (v .node) → Expands s d r d
   unfolding expandRefusals
   refused-table z d =
@@ -121,7 +121,7 @@ module _ (s : List ℕ) (older : isDerived s ≡ false) (v : Verdict) (c : Check
     count-there = let l = ok .long in omega arith
 
     not-three : ¬ (version s ≡ 3)
-    unfolding isDerived
+    unfolding hasVersion3
     not-three e = true≢false (sym (rw (le-ltb (length s) 6 (let l = count-there in omega arith), eq-eqb (version s) 3 e)) ∙ older)
 
     expansion-same : expansion s ≡ s

@@ -21,12 +21,12 @@ use Rattle.table.proofs.CheckingTo.{sound, checks-given}
 use Rattle.expansion.specs.Expansion.{baseCount, expandedCount, tooLarge}
 use Rattle.expansion.specs.Formed.{Formed}
 use Rattle.expand.specs.declared.Expansion.{Expansion}
-use Rattle.expand.specs.Opens.{isDerived, refusedExpansion, Unfolds, openRefusals, Opens}
+use Rattle.expand.specs.Opens.{hasVersion3, refusedExpansion, Unfolds, openRefusals, Opens}
 
 -- a derived table has version 3, and its count is that of the expanded table
-module _ (s : List ℕ) (derived : isDerived s ≡ true) where
+module _ (s : List ℕ) (derived : hasVersion3 s ≡ true) where
   pub version-three : version s ≡ 3
-  unfolding isDerived
+  unfolding hasVersion3
   version-three = go (ltb (length s) 6) derived
     where
       go : (b : Bool) → (not b && eqb (version s) 3) ≡ true → version s ≡ 3

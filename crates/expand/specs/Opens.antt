@@ -16,8 +16,8 @@ use Rattle.expansion.specs.Expansion.{baseCount, baseTable, tooLarge}
 use Rattle.expand.specs.declared.Expansion.{Expansion}
 
 -- six bytes or more, and version 3
-unfoldable pub isDerived : List ℕ → Bool
-isDerived s = not (ltb (length s) 6) && eqb (version s) 3
+unfoldable pub hasVersion3 : List ℕ → Bool
+hasVersion3 s = not (ltb (length s) 6) && eqb (version s) 3
 
 -- the expansion of s is written into d, where it has at most 120 nodes; r is its count
 pub record Unfolds (s d : List ℕ) (r : ℕ) (d′ : List ℕ) : Type 0 where

@@ -20,7 +20,7 @@ ghost use Rattle.nodes.specs.Nodes.{sortAt, root};
 ghost use Rattle.encoding.specs.Encoding.{put};
 ghost use Rattle.expansion.specs.Formed.{Formed};
 ghost use Rattle.expand.specs.Expands.{Expands};
-ghost use Rattle.expand.specs.Opens.{isDerived, refusedExpansion, Unfolds, Opens};
+ghost use Rattle.expand.specs.Opens.{hasVersion3, refusedExpansion, Unfolds, Opens};
 
 // What expanding answers: the verdict, and the count of the expansion's nodes.
 #[repr(C)]
@@ -39,9 +39,9 @@ fn refused(number: u8, node: usize) -> Expansion
     }
 }
 
-// Whether the bytes have the version of derived operators.
-pub fn is_derived(b: &[u8]) -> bool
-    ensures { λ r. ⌜ r ≡ isDerived (now (b .entry)) ⌝ }
+// Whether the bytes have a heading of version 3, the one with derived operators.
+pub fn has_version_3(b: &[u8]) -> bool
+    ensures { λ r. ⌜ r ≡ hasVersion3 (now (b .entry)) ⌝ }
 {
     if b.len() < 6 {
         return false;
@@ -66,7 +66,7 @@ fn unfold(b: &[u8], n: usize, out: &mut [u8]) -> usize
 // Of a version 3 table: refusals 1 to 9, 12 where the root is of the wrong sort, and 13, the first that applies; with none, its expansion in the first
 // bytes of `new`.
 pub fn open(b: &[u8], wrong: u8, new: &mut [u8]) -> Expansion
-    requires { ⌜ (isDerived (now b) ≡ true) × (length (now new) ≡ 486) ⌝ }
+    requires { ⌜ (hasVersion3 (now b) ≡ true) × (length (now new) ≡ 486) ⌝ }
     ensures { λ r. ⌜ Opens (now (b .entry)) wrong (now (new .entry)) r (now (new .exit)) ⌝ }
 {
     let v = check_to(b, NEWEST);
@@ -103,7 +103,7 @@ fn copy(from: &[u8], n: usize, out: &mut [u8])
 pub fn expand(b: &[u8], out: &mut [u8]) -> Expansion
     ensures { λ r. ⌜ Expands (now (b .entry)) (now (out .entry)) r (now (out .exit)) ⌝ }
 {
-    if is_derived(b) {
+    if has_version_3(b) {
         let mut new = [0; 486];
         let opened = open(b, NONE, &mut new);
         let verdict = opened.verdict;

@@ -1,4 +1,4 @@
--- The expanded table gets none of refusals 1 to 9, where it has at most 120 nodes. Assumes nothing.
+-- The expanded table, where it has at most 120 nodes, gets none of refusals 1 to 8, and 9 exactly where the given one does. Assumes nothing.
 use native.Mathlib.Omega.{arith}
 use mathlib.Core.Path.{_≡_, refl, _∙_, sym, ap}
 use mathlib.Core.Logic.{⊎-elim}
@@ -6,14 +6,15 @@ use mathlib.Core.List.{List}
 use Prim.Native.Nat.{ℕ, suc, _<_, _≤_}
 use Rattle.telling.proofs.Telling.{side}
 use Rattle.refusal.specs.Heading.{count}
+use Rattle.refusal.specs.declared.Verdict.{Verdict}
 use Rattle.refusal.specs.Computed.{accepted}
 use Rattle.nodes.specs.Operators.{sequence, newest}
 use Rattle.nodes.specs.Nodes.{sortAt, usesOf, root, WellFormed}
 use Rattle.nodes.proofs.Built.{Built, root-heavy}
 use Rattle.nodes.proofs.Placing.{unused}
-use Rattle.table.specs.Check.{Checks}
-use Rattle.table.proofs.CheckingTo.{SoundTo}
-use Rattle.table.proofs.Checking.{made-checks}
+use Rattle.table.specs.Check.{ChecksTo, Checks}
+use Rattle.table.proofs.CheckingTo.{SoundTo, hollow-one}
+use Rattle.table.proofs.Checking.{made-checks, made-nine}
 use Rattle.expansion.specs.Expansion.{booleans, baseCount, baseTable}
 use Rattle.expansion.proofs.Standing.{typed-some}
 use Rattle.expansion.proofs.Truths.{first-boolean}
@@ -61,10 +62,17 @@ module _ (s : List ℕ) (ok : Built s) where
     rooted = λ e. let r = root-heavy ok in let c = top-sort in omega arith;
   }
 
--- ---- so it is accepted
+-- ---- so it is accepted where the given one is
 
 pub expanded-checks : (s : List ℕ) → SoundTo newest s → baseCount s ≤ 120 → Checks (baseTable s) accepted
 unfolding baseTable
 expanded-checks s sound h =
     let ok = sound .formed in
     made-checks s sound (baseTable s) (λ r. r) (λ P. P) (keeps-sequence s ok) (keeps-property s ok) (λ P a. a) refl (omega arith, omega arith) (built s ok h)
+
+-- and refused with 9 where that is
+pub expanded-nine : (s : List ℕ) (v : Verdict) → ChecksTo newest s v → v .number ≡ 9 → baseCount s ≤ 120 → (u : Verdict) → Checks (baseTable s) u → u .number ≡ 9
+unfolding baseTable
+expanded-nine s v c z h =
+    let ok = hollow-one newest s v c z .0 in
+    made-nine newest s v c z (baseTable s) (keeps-property s ok) refl (omega arith, omega arith) (built s ok h)

@@ -1,10 +1,12 @@
--- The theorems of the expanded table: what its heading says, that its root stands for what the root of s stands for, and that it is accepted where s is.
+-- The theorems of the expanded table: what its heading says, that its root stands for what the root of s stands for, and that it is
+-- accepted where s is, and refused with 9 where s is.
 -- Assumes nothing.
 use mathlib.Core.Path.{_≡_}
 use mathlib.Core.List.{List}
 use Prim.Native.Nat.{ℕ, _+_, _*_, _≤_}
 use lib.ListN.{length}
 use Rattle.refusal.specs.Heading.{version, count}
+use Rattle.refusal.specs.declared.Verdict.{Verdict}
 use Rattle.refusal.specs.Computed.{accepted}
 use Rattle.meaning.specs.Syntax.{Seq, Prop}
 use Rattle.meaning.specs.Pairs.{Atom}
@@ -54,3 +56,7 @@ module _ (s : List ℕ) where
 
   pub expansion-checks : ChecksTo newest s accepted → expandedCount s ≤ 120 → Checks (expansion s) accepted
   expansion-checks = any.expansion-checks s
+
+  -- 9 is read on the expansion: where s is refused with 9 its expansion is, and where s is accepted, by the law above, it is not
+  pub expansion-nine : (v : Verdict) → ChecksTo newest s v → v .number ≡ 9 → expandedCount s ≤ 120 → (u : Verdict) → Checks (expansion s) u → u .number ≡ 9
+  expansion-nine = any.expansion-nine s

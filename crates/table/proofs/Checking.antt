@@ -1,7 +1,7 @@
 -- What checking says of a table with base operators alone, for the engines, which read it as it stands: the theorems at versions 1 to `base`.
 -- Assumes nothing.
 use native.Mathlib.Omega.{arith}
-use mathlib.Core.Path.{_≡_, refl, subst}
+use mathlib.Core.Path.{_≡_, refl, ap, subst}
 use mathlib.Core.Logic.{_⊎_, ⊎-elim}
 use mathlib.Core.List.{List}
 use Prim.Native.Nat.{ℕ, _≤_}
@@ -20,7 +20,7 @@ use Rattle.nodes.specs.Operators.{base}
 use Rattle.nodes.specs.Nodes.{nodeAt, root}
 use Rattle.nodes.proofs.Built.{Built, root-in}
 use Rattle.table.specs.Trees.{SequenceAt, PropertyAt, RootS, RootP}
-use Rattle.table.specs.Check.{refusals, Checks}
+use Rattle.table.specs.Check.{refusals, ChecksTo, Checks}
 use Rattle.table.specs.Computed.{cases, checked, checkedTo}
 use Rattle.table.proofs.Standing.{sequence-in, property-in}
 use Rattle.table.proofs.Topping.{accepted-at}
@@ -102,3 +102,22 @@ module _ {newest : ℕ} (s : List ℕ) (sound : SoundTo newest s) (t : List ℕ)
   made-checks m o b =
       let c = checks t (checked t) refl in
       ⊎-elim (λ z. absurd (not-nine c z)) (λ e. subst (Checks t) e c) (nine-or-none t (checked t) c (let l = b .long in omega arith) m o b)
+
+-- ---- and one made from a table that is refused with 9, whose root stands for the same, is refused with 9
+
+module _ (newest : ℕ) (s : List ℕ) (v : Verdict) (c : ChecksTo newest s v) (z : v .number ≡ 9) (t : List ℕ)
+    (properties : (P : Prop Atom) → RootP s P → RootP t P) where
+  not-none : (u : Verdict) → Checks t u → ¬ (u .number ≡ 0)
+  not-none u d n =
+      let ok = to.hollow-one newest s v c z .0 in
+      let l = root-in ok in
+      ⊎-elim
+      (λ e. let (r, a) = sequence-in s (count s) (ok .fit) (count s) (root s) l l e in theorems.refused-sequence newest s v c z r a)
+      (λ e.
+      let (P, a) = property-in s (count s) (ok .fit) (count s) (root s) l l e in
+      theorems.refused-root newest s v c z P a (accepted-root t u d n P (properties P a)))
+      (to.sorts s (root s) (ok .fit (root s) l) (ok .rooted))
+
+  pub made-nine : take 3 t ≡ mark 0x54 → Known base (version t) → Built t → (u : Verdict) → Checks t u → u .number ≡ 9
+  made-nine m o b u d =
+      ⊎-elim (λ e. e) (λ e. absurd (not-none u d (ap (λ (w : Verdict). w .number) e))) (nine-or-none t u d (let l = b .long in omega arith) m o b)

@@ -4,17 +4,17 @@ use mathlib.Core.Path.{_≡_, _∙_, sym}
 use mathlib.Core.Bool.{Bool, true, false}
 use mathlib.Core.List.{List}
 use Prim.Native.Nat.{ℕ}
-use Rattle.expand.specs.Opens.{isDerived}
+use Rattle.expand.specs.Opens.{hasVersion3}
 use Rattle.expand.proofs.Expanding.{not-opened, too-small, copied, refused-table, count-there, old-small, old-copied}
 use Rattle.expand.proofs.expand.Statement.{statement}
 use Rattle.expand.proofs.expand.Tie as tie
 
--- whether the table is derived was asked
-module _ (s : List ℕ) (b : Bool) (e : b ≡ isDerived s) where
-  derived : b ≡ true → isDerived s ≡ true
+-- whether the table has version 3 was asked
+module _ (s : List ℕ) (b : Bool) (e : b ≡ hasVersion3 s) where
+  derived : b ≡ true → hasVersion3 s ≡ true
   derived f = sym e ∙ f
 
-  older : b ≡ false → isDerived s ≡ false
+  older : b ≡ false → hasVersion3 s ≡ false
   older f = sym e ∙ f
 
 pub expand-spec : {M : Type 1} → statement M
