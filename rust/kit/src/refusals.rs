@@ -1,7 +1,8 @@
 //! Refusals in words. What the numbers mean is document 01's.
-use crate::assertion::{Assertion, Sort};
+use crate::assertion::{Assertion, Operator, Sort};
 use crate::failure::Failure;
 use crate::files;
+use crate::notation;
 use crate::sizes;
 use crate::source::Source;
 use std::path::Path;
@@ -18,12 +19,21 @@ pub fn failure(path: &Path, refusal: Refusal) -> Failure {
     Failure::Refused(format!("{shown}: {line}: {reason}"))
 }
 
-/// The same for a table, and of 13 what to do.
+/// The same for a table, with what else there is to say of it.
 pub fn table_failure(path: &Path, source: &Source, refusal: Refusal) -> Failure {
     let failure = failure(path, refusal);
+    match more(source, refusal).trim_end() {
+        "" => failure,
+        more => Failure::Refused(format!("{}\n{more}", failure.words())),
+    }
+}
+
+/// What else to say of a refused table, in lines: of 9 the part that it is about, of 13 what to do.
+pub fn more(source: &Source, refusal: Refusal) -> String {
     match refusal.number() {
-        13 => Failure::Refused(format!("{}\n{}", failure.words(), past(source).trim_end())),
-        _ => failure,
+        9 => format!("{}.\n", hollow_part(source, refusal.node())),
+        13 => past(source),
+        _ => String::new(),
     }
 }
 
@@ -65,9 +75,28 @@ pub fn kind(bytes: &[u8]) -> Kind {
     }
 }
 
-/// Refusal 9 in other words.
-pub const HOLLOW: &str =
-    "its sequence matches no stretch of one or more samples, whatever they are";
+/// The part that refusal 9 is about, and what it means.
+pub fn hollow_part(source: &Source, node: usize) -> String {
+    let part = |assertion: Assertion| {
+        let part = notation::phrase(&assertion, node, &source.names);
+        format!("{part}: {}", hollow(assertion.node(node).operator))
+    };
+    let readable = Assertion::of_readable(&source.table);
+    readable.map(part).unwrap_or_default()
+}
+
+/// Refusal 9 in other words, for the operator that it is given of. Of `|=>` and `#=#` an empty match will do.
+pub fn hollow(operator: Operator) -> String {
+    let sequence = match operator.is_implication() {
+        true => format!("the left side of {}", operator.sign()),
+        false => "its sequence".to_string(),
+    };
+    let stretch = match operator.asks_later() {
+        true => "stretch of samples",
+        false => "stretch of one or more samples",
+    };
+    format!("{sequence} matches no {stretch}, whatever they are")
+}
 
 /// What to say of an accepted table that is a sequence.
 pub fn sequence(assertion: &Assertion) -> Option<&'static str> {

@@ -43,14 +43,30 @@ impl Expanded {
         self.stands_for.get(written).copied().flatten()
     }
 
+    /// The operator of that property node.
+    pub fn operator(&self, written: usize) -> Option<Operator> {
+        let given = self.stands_for(written)?;
+        Some(self.given.node(given).operator)
+    }
+
     /// The `|->` of the expansion to which a node there belongs that stands for `|->`, `|=>`, `#-#` or `#=#`.
     pub fn implication(&self, written: usize) -> Option<usize> {
-        let given = self.given.node(self.stands_for(written)?);
-        match given.operator {
+        match self.operator(written)? {
             Operator::Implies | Operator::ImpliesNext => Some(written),
             Operator::Followed | Operator::FollowedNext => Some(self.x(written)),
             _ => None,
         }
+    }
+
+    /// The left side R of the `R ##1 1 |-> P` that a `|=>` or `#=#` is written out to.
+    pub fn left(&self, implication: usize) -> usize {
+        self.x(self.x(implication))
+    }
+
+    /// The P that a node of the expansion awaits which stands for `s_eventually P`.
+    pub fn awaited(&self, written: usize) -> Option<usize> {
+        let awaits = self.operator(written)? == Operator::Eventually;
+        awaits.then(|| self.x(self.x(self.x(written))))
     }
 
     /// Each implication of the table in its order, with the `|->` that it is written out to: more than one

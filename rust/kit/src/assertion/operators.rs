@@ -177,6 +177,14 @@ impl Operator {
         }
     }
 
+    /// The signs of the implications among some operators, `|-> or |=>`; nothing where there are none.
+    pub fn signs(operators: &[Operator]) -> String {
+        let implications = [Implies, ImpliesNext, Followed, FollowedNext];
+        let found = implications.into_iter();
+        let found = found.filter(|implication| operators.contains(implication));
+        found.map(Operator::sign).collect::<Vec<_>>().join(" or ")
+    }
+
     /// Whether it asks about a signal, whose number is then x.
     pub fn asks_signal(self) -> bool {
         matches!(self, Signal | Rose | Fell)

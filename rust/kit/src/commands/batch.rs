@@ -144,8 +144,8 @@ Judges many records by one table and reports how many held, are open or broken, 
 could not be read. Of a folder every file below it whose name ends in .svw is judged, by name; links
 to folders are not entered. A torn or unreadable file is counted and named, and the run goes on; of
 the broken records the first twenty are named. The report counts the records that did not test the
-assertion, and those that never asked some |->; and it says what is asked at the first sample only,
-and how to ask it at every one.
+assertion, and those that never asked some |->, where |=>, #-# and #=# count too; and it says what
+is asked at the first sample only, and how to ask it at every one.
 
 While it runs, a terminal shows a bar on standard error. The slowest record is the one that took
 longest to judge, reading not counted.
@@ -154,8 +154,8 @@ longest to judge, reading not counted.
   DIR|FILES..       folders of records, and records
   --require N       the level of every record must be N or higher: 0, 1, 2 or 3
   --tested          every record must test the assertion: some strong or weak in it must be reached
-  --asked           every record must ask every |->: its left side must match from a sample at which
-                    the |-> was reached
+  --asked           every record must ask every |->, and every |=>, #-# and #=#: its right side must
+                    be asked, from a sample at which it was reached
   --once            what is asked at the first sample only is meant so, and no word is said of it
   --engine WHICH    both, which is the default, fast, which is the quickest, or plain, as for kit
                     judge. Where the plain engine judges alone the report says so, and does not

@@ -40,9 +40,9 @@ fn run(options: &Options, console: &mut Console) -> Outcome {
         Err(refused) if json => {
             format!("{}\n", verdict::refusal_object(*refused, engine, required))
         }
-        Err(refused @ Refused::Table(_)) => {
-            let past = refusals::past(&source);
-            verdict::refusal_words(*refused, table, &source.table, &past)
+        Err(refused @ Refused::Table(refusal)) => {
+            let more = refusals::more(&source, *refusal);
+            verdict::refusal_words(*refused, table, &source.table, &more)
         }
         Err(refused @ Refused::Record(_)) => verdict::refusal_words(*refused, record, &bytes, ""),
     })?;
@@ -78,7 +78,7 @@ Judges a record by an assertion, and says why.
 
 The first line is always the answer in short: `level 1 tested yes`, or `refused 9 at 3`. Then come
 in words: what the level means; whether the record put the assertion to the test; of each |->, the
-samples from which it was reached and those at which its left side then matched, or that it was
+samples from which it was reached and those at which its right side was then asked, or that it was
 never asked; what is asked at the first sample only, and how to ask it at every one; the level after
 each sample, with samples counted from 0; the sample at which it closed, after which nothing can
 change it; and the decisive part, which is the smallest part of the assertion that by itself
@@ -87,8 +87,9 @@ explains the level.
 The levels: 3 held whatever comes next, 2 held as the record stands, 1 nothing broken and still
 waiting, 0 broken.
 
-What is said of |-> holds of |=>, #-# and #=# too. Of |=> and #=# the samples told are those at
-which the right side is asked: one after the match of the left side, or under a clock the next tick.
+What is said of |-> holds of |=>, #-# and #=# too. The right side is asked at the last sample of
+each match of the left side; of |=> and #=# at the sample after it, or under a clock at the next
+tick.
 
 Two engines judge, each proved by itself. The fast one rewrites the clocks of the table away, and
 refuses it with 13 where that takes more than 120 nodes; the plain one reads the table as it is.
@@ -104,8 +105,8 @@ no rows to read off which |-> were asked and which part was decisive, and neithe
   --names FILE.txt  a text that declares the signals' names, for a .svt; without it signal 3 is s3
   --require N       the level must be N or higher: 0, 1, 2 or 3
   --tested          the record must test the assertion: some strong or weak in it must be reached
-  --asked           the record must ask every |->: its left side must match from a sample at which
-                    the |-> was reached
+  --asked           the record must ask every |->: its right side must be asked, from a sample at
+                    which the |-> was reached
   --once            what is asked at the first sample only is meant so, and no word is said of it
   --engine WHICH    both, which is the default; fast, which refuses tables with 13; or plain, which
                     cannot have --asked
@@ -122,7 +123,7 @@ The JSON object has every key always, null or empty where there is nothing to sa
                 \"reached\":[0,1],\"matched\":[1],\"asked\":true}; node is its place in the table, part
                 its text and left that of its left side; reached are the samples from which it was
                 reached, where the number of samples is the end of the record; matched are those at
-                which its left side then matched, and asked is false where there are none; null
+                which its right side was then asked, and asked is false where there are none; null
                 where the plain engine judged alone and there are any, for it cannot tell
   once          true where something is asked at the first sample only, with --once and without
   assertion     the assertion as text

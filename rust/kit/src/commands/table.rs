@@ -7,7 +7,7 @@ use crate::files;
 use crate::notation::{self, Text};
 use crate::once;
 use crate::options::{Options, Spec};
-use crate::refusals::{self, HOLLOW};
+use crate::refusals;
 use crate::sizes::{self, Sizes};
 use crate::source::{self, Source};
 use crate::words;
@@ -132,7 +132,8 @@ fn run(options: &Options, console: &mut Console) -> Outcome {
 fn refused(path: &Path, read: &Text, refusal: Refusal) -> Failure {
     let part = notation::phrase(&read.assertion, refusal.node(), &read.names);
     let failure = refusals::failure(path, refusal);
-    Failure::Refused(format!("{}\n  {part}\n{HOLLOW}", failure.words()))
+    let hollow = refusals::hollow(read.assertion.node(refusal.node()).operator);
+    Failure::Refused(format!("{}\n  {part}\n{hollow}", failure.words()))
 }
 
 /// `15 nodes, 3 signals, a property`, after the version where it is not 1, and with the nodes that derived

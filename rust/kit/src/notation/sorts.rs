@@ -90,7 +90,7 @@ impl Parser<'_> {
         };
         let words = format!(
             "`{}` makes a property, and a sequence is due here, as everywhere in strong(..), in weak(..) \
-             and left of |->{hint}",
+             and left of |->, |=>, #-# and #=#{hint}",
             operator.text
         );
         self.mistake(operator.start, words)

@@ -12,13 +12,15 @@ use super::svg::Svg;
 const MOST_LINES: usize = 200;
 
 /// The lines of words below the program's line.
-fn words(scene: &Scene) -> Vec<&'static str> {
+fn words(scene: &Scene) -> Vec<String> {
     let judgement = scene.verdict.judgement;
-    let mut words = vec![judgement.level.meaning()];
+    let mut words = vec![judgement.level.meaning().to_string()];
     match (judgement.tested, scene.asked) {
-        (true, Some(false)) => words.push("tested, but not every |-> was asked"),
+        (true, Some(false)) => {
+            words.push(format!("tested, but not every {} was asked", scene.signs))
+        }
         (true, _) => {}
-        (false, _) => words.push("not tested: no strong and no weak was reached"),
+        (false, _) => words.push("not tested: no strong and no weak was reached".to_string()),
     }
     words
 }
@@ -51,7 +53,7 @@ pub fn draw(svg: &mut Svg, scene: &Scene, layout: &Layout) {
     let line = scene.verdict.judgement.to_string();
     svg.words(&LINE, (MARGIN, FIRST_BASELINE), &line);
     for (words, y) in words(scene).into_iter().zip(baselines()) {
-        svg.words(&MEANING, (MARGIN, y), words);
+        svg.words(&MEANING, (MARGIN, y), &words);
     }
     draw_assertion(svg, layout);
 }

@@ -16,9 +16,9 @@ pub enum Entry {
     Tick,
     /// The closing mark.
     Closing,
-    /// The mark of a `|->` that was asked.
+    /// The mark of a sample at which the right side of an implication was asked.
     Asked,
-    /// The mark of a `|->` that was only reached.
+    /// The mark of one at which the implication was only reached.
     Reached,
 }
 
@@ -41,8 +41,8 @@ impl Entry {
             Entry::Level(level) => level.meaning(),
             Entry::Tick => "clock tick",
             Entry::Closing => "level closed",
-            Entry::Asked => "|-> asked: its left side matched",
-            Entry::Reached => "|-> only reached",
+            Entry::Asked => "right side asked",
+            Entry::Reached => "implication only reached",
         }
     }
 

@@ -31,7 +31,7 @@ pub struct Change {
 pub struct ImplicationRow {
     /// Its left side and the sign.
     pub name: String,
-    /// The samples at which its left side matched from where it was reached, so that it was asked.
+    /// The samples at which its right side was asked, from where it was reached.
     pub matched: Vec<usize>,
     /// The other samples at which it was reached.
     pub reached: Vec<usize>,
@@ -56,6 +56,8 @@ pub struct Scene {
     pub tested: String,
     /// Whether every `|->` was asked, where it is told.
     pub asked: Option<bool>,
+    /// The signs of the implications.
+    pub signs: String,
     /// The `|->`.
     pub implications: Vec<ImplicationRow>,
     /// The levels.
@@ -95,6 +97,7 @@ impl Scene {
             decisive: why(&account),
             tested: implication_words(&account),
             asked: account.judged().asked,
+            signs: account.signs,
             implications: implications.collect(),
             assertion: account.assertion,
             clocks: assertion

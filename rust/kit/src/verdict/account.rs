@@ -22,8 +22,8 @@ pub struct Account {
     pub assertion: String,
     /// The signals that it asks about, with their names.
     pub signals: Vec<(u8, String)>,
-    /// Whether it has a `|->`, `|=>`, `#-#` or `#=#`.
-    pub implies: bool,
+    /// The signs of its implications, `|-> or |=>`; empty where it has none.
+    pub signs: String,
     /// What it asks at the first sample only, if anything.
     pub once: Option<Once>,
     /// What the rows of the fast engine tell, where it judged.
@@ -70,14 +70,14 @@ pub fn account(
         None => None,
     };
     let signals = assertion.signals().into_iter();
-    let mut nodes = assertion.nodes().iter();
+    let operators: Vec<Operator> = assertion.nodes().iter().map(|it| it.operator).collect();
     Ok(Account {
         verdict,
         engine: engines.engine(),
         past: engines.past(),
         assertion: phrase(&assertion, assertion.root(), names),
         signals: signals.map(|signal| (signal, names.name(signal))).collect(),
-        implies: nodes.any(|node| node.operator.is_implication()),
+        signs: Operator::signs(&operators),
         once: Once::of(&assertion, names),
         explained,
     })
@@ -111,7 +111,7 @@ impl Account {
             judgement: self.verdict.judgement,
             asked: match &self.explained {
                 Some(explained) => Some(all(explained)),
-                None => (!self.implies).then_some(true),
+                None => self.signs.is_empty().then_some(true),
             },
         }
     }

@@ -33,7 +33,9 @@
 //! | `strong(R)`, `weak(R)` | stop | stop |
 //!
 //! Derived operators are written out first (docs/BLOCKS.md), and the walk goes through what they are written
-//! out to. Where it ends inside of that, the part is the one with the derived operator.
+//! out to. Where it ends inside of that, the part is the one with the derived operator. `P s_until Q` is
+//! written out to an `and` with `P until Q` on its left. It has level 3 exactly where that has, so there the
+//! walk goes on, and does not stop as at another `and`.
 //!
 //! An assertion that is closed is explained on the samples up to that at which it closed. So these hold:
 //!
@@ -42,6 +44,7 @@
 //! - where it is open, the assertion is never above the part, however the record goes on (turned
 //!   round under `not`): what breaks the part breaks the assertion.
 use super::asked::Asked;
+use super::awaiting::Awaiting;
 use super::Verdict;
 use crate::assertion::{Assertion, Expanded, Operator};
 use xistomar::{Level, Refusal};
@@ -61,8 +64,12 @@ pub struct Decisive {
     pub closed: Option<usize>,
     /// The first and the last sample of its match, for `strong` and `weak` that matched.
     pub matched: Option<(usize, usize)>,
-    /// Whether anything was asked of it: not of an implication whose left side does not match from there.
+    /// Whether anything was asked of it: not of an implication whose right side is not asked from there.
     pub asked: bool,
+    /// What a `|=>` or `#=#` still awaits.
+    pub awaiting: Option<Awaiting>,
+    /// The first sample from which what an s_eventually awaits has the same level.
+    pub since: Option<usize>,
 }
 
 /// Finds the decisive part of an assertion on the samples of its verdict.
@@ -76,6 +83,7 @@ pub fn decisive(
     let count = closed.map_or(samples.len(), |sample| sample + 1);
     let samples = samples.get(..count).unwrap_or(samples);
     let mut walk = Walk {
+        expanded,
         assertion,
         asked: Asked::new(assertion, samples, closed.unwrap_or(count)),
         open: closed.is_none(),
@@ -83,10 +91,10 @@ pub fn decisive(
         node: assertion.root(),
         from: 0,
     };
-    let mut given = walk.stand(expanded);
+    let mut given = walk.stand();
     while let Some((node, from)) = walk.step()? {
         (walk.node, walk.from) = (node, from);
-        given = walk.stand(expanded).or(given);
+        given = walk.stand().or(given);
     }
     let stand = given.unwrap_or_default();
     (walk.node, walk.from) = (stand.written, stand.from);
@@ -98,7 +106,9 @@ pub fn decisive(
         turned: stand.so_high != (side_of(verdict.judgement.level) == Side::SoHigh),
         closed,
         matched: walk.matched(level)?,
-        asked: walk.asks(expanded.implication(walk.node))?,
+        asked: walk.asks()?,
+        awaiting: walk.awaiting()?,
+        since: walk.since(level)?,
     })
 }
 
@@ -135,6 +145,8 @@ fn side_of(level: Level) -> Side {
 type Next = Result<Option<(usize, usize)>, Refusal>;
 
 struct Walk<'a> {
+    expanded: &'a Expanded,
+    /// The assertion of the expansion.
     assertion: &'a Assertion,
     asked: Asked<'a>,
     /// Whether the assertion is open.
@@ -146,14 +158,14 @@ struct Walk<'a> {
 
 impl Walk<'_> {
     /// Where the walk is, if that stands for a node of the table.
-    fn stand(&self, expanded: &Expanded) -> Option<Stand> {
+    fn stand(&self) -> Option<Stand> {
         let stand = |node| Stand {
             node,
             written: self.node,
             from: self.from,
             so_high: self.side == Side::SoHigh,
         };
-        expanded.stands_for(self.node).map(stand)
+        self.expanded.stands_for(self.node).map(stand)
     }
 
     /// The operand that explains the node, if one alone does. Operands are below their node, so the
@@ -172,6 +184,7 @@ impl Walk<'_> {
                 Ok(Some((x, self.from)))
             }
             Operator::PropertyAnd if not_higher => self.first(x, y),
+            Operator::PropertyAnd if self.is_held_until() => Ok(Some((x, self.from))),
             Operator::PropertyAnd => self.beside(x, y, Level::Strong),
             Operator::PropertyOr if not_higher => self.beside(x, y, Level::Broken),
             Operator::PropertyOr => self.first(x, y),
@@ -182,6 +195,11 @@ impl Walk<'_> {
             Operator::Implies => self.implies_so_high(x, y),
             _ => Ok(None),
         }
+    }
+
+    /// Whether the `and` is that of an s_until, and closed.
+    fn is_held_until(&self) -> bool {
+        !self.open && self.expanded.operator(self.node) == Some(Operator::StrongUntil)
     }
 
     fn level(&mut self) -> Result<Level, Refusal> {
@@ -302,13 +320,45 @@ impl Walk<'_> {
         Ok(ends.filter(|end| *end > from).map(|end| end - 1).collect())
     }
 
-    /// Whether the part where the walk ended asks anything; `implication` is its `|->`, if it is one.
-    fn asks(&mut self, implication: Option<usize>) -> Result<bool, Refusal> {
-        let Some(implication) = implication else {
+    /// Whether the part where the walk ended asks anything.
+    fn asks(&mut self) -> Result<bool, Refusal> {
+        let Some(implication) = self.expanded.implication(self.node) else {
             return Ok(true);
         };
         let left = usize::from(self.assertion.node(implication).x);
         Ok(!self.last_samples(left)?.is_empty())
+    }
+
+    /// What the part where the walk ended still awaits, if it is a `|=>` or `#=#`.
+    fn awaiting(&mut self) -> Result<Option<Awaiting>, Refusal> {
+        let operator = self.expanded.operator(self.node);
+        let later = operator.is_some_and(Operator::asks_later);
+        let implication = self.expanded.implication(self.node);
+        let Some(implication) = implication.filter(|_| later) else {
+            return Ok(None);
+        };
+        let mut matches = Vec::new();
+        let left = self.expanded.left(implication);
+        for end in self.asked.matches(left, self.from)?.ends() {
+            if self.asked.positions(implication, end)?.is_empty() {
+                matches.push((self.from, end));
+            }
+        }
+        let clocked = self.assertion.clock(implication).is_some();
+        Ok(Awaiting::of(matches, clocked))
+    }
+
+    /// The first sample from which what is awaited has this level, if the walk ended at an s_eventually.
+    fn since(&mut self, level: Level) -> Result<Option<usize>, Refusal> {
+        let Some(awaited) = self.expanded.awaited(self.node) else {
+            return Ok(None);
+        };
+        for at in self.asked.positions(self.node, self.from)? {
+            if self.asked.level(awaited, at)? == level {
+                return Ok(Some(at));
+            }
+        }
+        Ok(None)
     }
 
     /// The shortest match of the part where the walk ended, for `strong` and `weak` at level 3.

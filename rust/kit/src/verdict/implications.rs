@@ -1,5 +1,6 @@
 //! The implications of an assertion, `|->`, `|=>`, `#-#` and `#=#`: where a record reached each, and where
 //! its right side was then asked.
+use super::awaiting::Awaiting;
 use super::reached::Reaching;
 use crate::assertion::Operator;
 use crate::names::Names;
@@ -20,12 +21,14 @@ pub struct Implication {
     /// The samples at which the right side was asked: the last ones of the matches of its left side from
     /// there, and of `|=>` and `#=#` the ones after.
     pub matched: Vec<usize>,
+    /// What a `|=>` or `#=#` still awaits.
+    pub awaiting: Option<Awaiting>,
     /// Its operator.
     pub operator: Operator,
 }
 
 impl Implication {
-    /// Whether it was asked: its left side matched from a sample at which it was reached.
+    /// Whether it was asked: its right side was, from a sample at which it was reached.
     pub fn asked(&self) -> bool {
         !self.matched.is_empty()
     }
@@ -38,7 +41,9 @@ pub fn implications(
     samples: &[u64],
 ) -> Result<Vec<Implication>, Refusal> {
     let reaching = Reaching::of(table)?;
-    let reached = reaching.reached(&mut Judge::new(), samples)?;
+    let mut judge = Judge::new();
+    let reached = reaching.reached(&mut judge, samples)?;
+    let rows = judge.workspace();
     let assertion = reaching.assertion();
     let text = |node: usize| notation::part(assertion, node, names);
     let listed = reaching.implications().iter();
@@ -49,6 +54,7 @@ pub fn implications(
             left: text(usize::from(assertion.node(asking.node).x)),
             reached: reached.reached(asking),
             matched: reached.asked(asking),
+            awaiting: reaching.awaiting(asking, &reached, (rows, samples.len())),
             operator: assertion.node(asking.node).operator,
         })
         .collect())

@@ -1,6 +1,7 @@
 //! The verdict on a record, sample by sample, from the proved judge.
 mod account;
 mod asked;
+mod awaiting;
 mod decisive;
 mod implication_words;
 mod implications;

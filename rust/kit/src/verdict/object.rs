@@ -8,7 +8,7 @@
 //! | `engine` | the engines that judged, or that were asked where the record is refused: `both`, `fast` or `plain` |
 //! | `level`, `name`, `meaning` | the level, 0 to 3, its name and its meaning in words |
 //! | `tested` | whether the record tested the assertion |
-//! | `implications` | each `\|->`: its `node` in the table, the `part` in the notation and its `left` side, the samples from which it was `reached` (the number of samples is the end of the record), those at which its left side then `matched`, and whether it was `asked`, that is whether there are any |
+//! | `implications` | each `\|->`: its `node` in the table, the `part` in the notation and its `left` side, the samples from which it was `reached` (the number of samples is the end of the record), those at which its right side was then asked (`matched`), and whether it was `asked`, that is whether there are any |
 //! | `once` | whether something is asked at the first sample only, since no `until` stands above it |
 //! | `assertion` | the assertion in the notation |
 //! | `signals` | the signals that it asks about, each with its `number` and `name` |
@@ -105,8 +105,8 @@ fn signal((number, name): &(u8, String)) -> Json {
 fn implications(account: &Account) -> Json {
     match &account.explained {
         Some(explained) => Json::List(explained.implications.iter().map(implication).collect()),
-        None if account.implies => Json::Null,
-        None => Json::List(vec![]),
+        None if account.signs.is_empty() => Json::List(vec![]),
+        None => Json::Null,
     }
 }
 

@@ -52,8 +52,12 @@ fn what_words(explained: &Explained) -> String {
 }
 
 /// What counts in a part of which no operand alone is decisive.
-fn counting(explained: &Explained, level: Level) -> &'static str {
-    match (explained.operator, level) {
+fn counting(explained: &Explained, level: Level) -> String {
+    let decisive = &explained.decisive;
+    if let (Some(awaiting), false) = (decisive.awaiting, decisive.asked) {
+        return format!("; {}", awaiting.words());
+    }
+    let words = match (explained.operator, level) {
         (Operator::Implies | Operator::ImpliesNext, _) => implying(explained, level),
         (Operator::Followed | Operator::FollowedNext, _) => following(explained, level),
         (Operator::Nexttime | Operator::StrongNexttime, _) => {
@@ -62,12 +66,20 @@ fn counting(explained: &Explained, level: Level) -> &'static str {
         (Operator::Until | Operator::Always, Level::Neutral) => {
             ", and what comes next may break it"
         }
+        (Operator::Eventually, Level::Neutral) => return holding(decisive.since),
         (Operator::Eventually, _) => ", for it has not come yet",
         (Operator::StrongUntil, Level::Weak) => ", for its right side has not come yet",
         (Operator::PropertyOr, Level::Broken) => ", as both its sides are",
         (Operator::PropertyAnd, Level::Strong) => ", as both its sides did",
         _ => "; both its sides count",
-    }
+    };
+    words.to_string()
+}
+
+/// What counts in an s_eventually that holds as the record stands.
+fn holding(since: Option<usize>) -> String {
+    let from = since.map_or(String::new(), |sample| format!(" from sample {sample}"));
+    format!(", for what it awaits holds{from} as the record stands; what comes next may break that")
 }
 
 /// What counts in a `|->` or `|=>`.

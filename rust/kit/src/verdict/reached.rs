@@ -18,6 +18,7 @@
 //!
 //! Ticks, matches and whether a part holds are read off the rows that judging the whole assertion leaves,
 //! so that a record is judged once.
+use super::awaiting::Awaiting;
 use super::Judged;
 use crate::assertion::{Assertion, Expanded, Operator, MOST_NODES};
 use crate::engine::{Engines, Unjudged};
@@ -95,12 +96,32 @@ impl Reaching {
         Ok(Judged { judgement, asked })
     }
 
-    /// Whether a record asked every `|->`: whether its left side matched from where it was reached, and so
-    /// the right side was reached.
+    /// Whether a record asked every `|->`: whether its right side was reached.
     fn asked(&self, rows: &[u64], samples: usize) -> bool {
         let reached = self.read_off(rows, samples);
         let mut implications = self.implications.iter();
         implications.all(|asking| reached.union(&asking.right) != 0)
+    }
+
+    /// What a `|=>` or `#=#` still awaits, by the rows that the judge left of so many samples.
+    pub fn awaiting(
+        &self,
+        asking: &Asking,
+        reached: &Reached,
+        (workspace, samples): (&[u64], usize),
+    ) -> Option<Awaiting> {
+        if !self.assertion().node(asking.node).operator.asks_later() {
+            return None;
+        }
+        let walk = Walk {
+            reaching: self,
+            workspace,
+            samples,
+            reached: reached.0,
+        };
+        let written = asking.written.iter();
+        let clocked = self.assertion().clock(asking.node).is_some();
+        Awaiting::of(written.flat_map(|node| walk.unasked(*node)), clocked)
     }
 
     /// Where parts are reached, by the rows that the judge left.
@@ -148,7 +169,7 @@ impl Reached {
 }
 
 /// The numbers of the bits that are set, from the lowest.
-fn positions(mut set: u64) -> impl Iterator<Item = usize> {
+pub(super) fn positions(mut set: u64) -> impl Iterator<Item = usize> {
     std::iter::from_fn(move || {
         let rest = set.checked_sub(1)?;
         let lowest = set.trailing_zeros();
@@ -207,6 +228,17 @@ impl Walk<'_> {
             ends >> 1 & u64::MAX << start
         };
         positions(from).map(last).fold(0, |all, some| all | some)
+    }
+
+    /// The matches of the left side of a `|=>`, from where it is reached, that have no sample after them at
+    /// which it looks; each by its start and its end.
+    fn unasked(&self, implication: usize) -> Vec<(usize, usize)> {
+        let row = self.row(self.reaching.expanded.left(implication));
+        let seen = u64::BITS - self.looked_at(implication).leading_zeros();
+        let from = self.reached.get(implication).copied().unwrap_or_default();
+        let ends = |start: usize| row.get(start).copied().unwrap_or_default() & u64::MAX << seen;
+        let matches = |start| positions(ends(start)).map(move |end| (start, end));
+        positions(from).flat_map(matches).collect()
     }
 
     fn next(&self, node: usize, from: u64) -> u64 {

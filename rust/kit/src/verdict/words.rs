@@ -60,8 +60,8 @@ fn required_words(account: &Account, required: Required) -> String {
 }
 
 /// The program's line for a refusal, which file it is of and why, and what helps. `path` is where
-/// that file is, `bytes` are its bytes, and `past` says what to do about 13.
-pub fn refusal_words(refused: Refused, path: &Path, bytes: &[u8], past: &str) -> String {
+/// that file is, `bytes` are its bytes, and `more` is what else is said of a table with 9 or 13.
+pub fn refusal_words(refused: Refused, path: &Path, bytes: &[u8], more: &str) -> String {
     let refusal = refused.refusal();
     let (file, number) = (refused.file(), refusal.number());
     let place = match number {
@@ -77,7 +77,7 @@ pub fn refusal_words(refused: Refused, path: &Path, bytes: &[u8], past: &str) ->
             "This table is a sequence, and the judge takes a property: strong(..) or weak(..) around \
              it makes one.\n"
         }
-        13 => past,
+        9 | 13 => more,
         _ => "",
     });
     let shown = files::shown(path);

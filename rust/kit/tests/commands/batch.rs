@@ -360,7 +360,9 @@ fn a_refused_table_judges_nothing() {
     let ran = kit(["batch", &bad, &record]);
     assert_eq!((ran.status, ran.out.as_str()), (3, ""));
     let reason = "strong, weak or |-> over a sequence that matches no k letters ⊤, k at least 1";
-    let message = format!("kit batch: {bad}: refused 9 at 3: {reason}\n");
+    let hollow = "its sequence matches no stretch of one or more samples, whatever they are";
+    let message =
+        format!("kit batch: {bad}: refused 9 at 3: {reason}\nstrong(s0[*0]): {hollow}.\n");
     assert_eq!(ran.err, message);
     // a[*1:$]: the judge takes a property, so 12
     let bad = run.file("bad.svt", table(&[[1, 0, 0], [16, 0, 0], [21, 1, 0]]));

@@ -191,6 +191,145 @@ fn what_is_awaited_is_told() {
     }
 }
 
+/// What is said of a record by an assertion.
+fn judged(assertion: &str, samples: &[u64]) -> String {
+    let folder = Folder::new();
+    made(&folder, assertion);
+    let file = folder.file("r.svw", record(samples));
+    let said = kit(["judge", &folder.path("t.txt"), &file, "--once"]);
+    assert_eq!(said.status, 0, "{said:?}");
+    said.out
+}
+
+/// Asserts what is said where the left side matched and the right side is not asked yet: of the implication, and
+/// of the decisive part.
+fn awaits(assertion: &str, samples: &[u64], [reached, part, matched]: [&str; 3]) {
+    let said = judged(assertion, samples);
+    let why = format!(
+        "its left side matched {matched}, at which the right side is asked, is still to come.\n"
+    );
+    for line in [
+        format!("Never asked: {reached}: {why}"),
+        format!("Decisive: {part}; {why}"),
+    ] {
+        assert!(said.contains(&line), "{line}\n{said}");
+    }
+}
+
+#[test]
+fn a_match_at_the_end_still_awaits_its_sample() {
+    let whole = "the whole assertion, asked from sample 0";
+    // no a before sample 2
+    let reached = "a |=> strong(b), reached from samples 0 to 2";
+    let part = "a |=> strong(b), asked from sample 2: held so far";
+    let matched = "at sample 2, and the next sample";
+    awaits(
+        "always (a |=> strong(b))",
+        &[0, 0, 1],
+        [reached, part, matched],
+    );
+
+    let (held, waiting) = (
+        format!("{whole}: held so far"),
+        format!("{whole}: still waiting"),
+    );
+    let matched = "at sample 0, and the next sample";
+    let reached = "a |=> strong(b), reached from sample 0";
+    awaits("a |=> strong(b)", &[1], [reached, &held, matched]);
+    let reached = "a #=# strong(b), reached from sample 0";
+    awaits("a #=# strong(b)", &[1], [reached, &waiting, matched]);
+
+    // a and then b: the match ends at sample 1
+    let reached = "a ##1 b |=> strong(c), reached from sample 0";
+    let matched = "at sample 1, and the next sample";
+    awaits("a ##1 b |=> strong(c)", &[1, 2], [reached, &held, matched]);
+}
+
+#[test]
+fn under_a_clock_it_awaits_the_next_tick() {
+    // c ticks at sample 0 only, with a
+    let reached = "@(c) (a |=> strong(b)), reached from sample 0";
+    let part = "@(c) (a |=> strong(b)), asked from sample 0: held so far";
+    let matched = "at sample 0, and the next tick";
+    awaits(
+        "@(c) always (a |=> strong(b))",
+        &[5, 0, 0],
+        [reached, part, matched],
+    );
+
+    let whole = "the whole assertion, asked from sample 0: held so far";
+    // a ticks at each sample, and c at none after sample 0
+    let reached = "@(c) ((@(a) b[*1:$]) |=> strong(b)), reached from sample 0";
+    let matched = "at samples 0 to 2, and the next tick";
+    awaits(
+        "@(c) ((@(a) b[*1:$]) |=> strong(b))",
+        &[7, 3, 3],
+        [reached, whole, matched],
+    );
+    // an empty match, before the first tick
+    let reached = "@(c) (a[*0] |=> strong(b)), reached from sample 0";
+    let matched = "without a sample, and the next tick";
+    awaits(
+        "@(c) (a[*0] |=> strong(b))",
+        &[1],
+        [reached, whole, matched],
+    );
+}
+
+/// Where the left side has not matched, that is still what is told.
+#[test]
+fn what_has_not_matched_is_told_so() {
+    let said = judged("a ##1 b |=> strong(c)", &[1]);
+    for line in [
+        "Never asked: a ##1 b |=> strong(c), reached from sample 0: its left side never matched from there.\n",
+        "Decisive: the whole assertion, asked from sample 0: held so far, for its left side has not matched from there yet.\n",
+    ] {
+        assert!(said.contains(line), "{line}\n{said}");
+    }
+}
+
+/// The decisive part and what comes after it, to the end.
+fn decisive(assertion: &str, samples: &[u64]) -> String {
+    let said = judged(assertion, samples);
+    said.split_once("Decisive: ").unwrap().1.to_string()
+}
+
+/// s_eventually at level 2: from the first sample from which what it awaits holds as the record stands.
+#[test]
+fn what_has_come_and_may_be_broken_is_told() {
+    for (assertion, samples, since) in [
+        // broken from sample 0, and a at each sample from 1 on
+        ("s_eventually always strong(a)", &[0, 1, 1][..], 1),
+        // one a, and the second may come
+        ("s_eventually weak(a[*2])", &[1], 0),
+        // ticks at samples 1 and 2, a at the second
+        ("@(c) s_eventually always strong(a)", &[1, 4, 5, 0], 2),
+    ] {
+        let expected = format!(
+            "the whole assertion, asked from sample 0: held so far, for what it awaits holds from sample {since} as \
+             the record stands; what comes next may break that.\n"
+        );
+        assert_eq!(decisive(assertion, samples), expected);
+    }
+}
+
+/// s_until at level 3 is explained as until is.
+#[test]
+fn an_s_until_that_held_names_what_closed_it() {
+    let came = "strong(b), asked from sample 2: matched at sample 2.\n";
+    assert_eq!(decisive("strong(a) s_until strong(b)", &[1, 1, 2]), came);
+    assert_eq!(decisive("strong(a) until strong(b)", &[1, 1, 2]), came);
+    assert_eq!(
+        decisive("not (strong(a) s_until strong(b))", &[1, 1, 2]),
+        format!("{came}It stands under not, so that it broke the assertion.\n")
+    );
+    // b came at sample 1 already, and the left side of sample 0 has its second a at sample 2
+    assert_eq!(
+        decisive("strong(a ##2 a) s_until strong(b)", &[1, 2, 1]),
+        "strong(a ##2 a), asked from sample 0: matched by samples 0 to 2.\n"
+    );
+}
+
 /// A picture has a row for each implication, and records are judged by the hundred.
 #[test]
 fn pictures_and_many_records() {
@@ -261,4 +400,27 @@ fn a_hollow_part_is_named() {
     assert!(said.err.contains("refused 9 at 4"), "{}", said.err);
     assert!(said.err.contains("\n  strong(a[->0])\n"), "{}", said.err);
     assert_eq!(made(&folder, "a[*0] |=> strong(b)").1.status, 0);
+    for (assertion, hollow) in [
+        (
+            "a[*0] #-# strong(b)",
+            "the left side of #-# matches no stretch of one or more samples, whatever they are",
+        ),
+        // an empty match would do, and there is none: two matches that share a sample are not empty
+        (
+            "a[*0] ##0 a #=# strong(b)",
+            "the left side of #=# matches no stretch of samples, whatever they are",
+        ),
+    ] {
+        let (_, said) = made(&folder, assertion);
+        let told = format!("\n  {assertion}\n{hollow}\n");
+        assert!(said.err.ends_with(&told), "{}", said.err);
+        let (text, file) = (folder.path("t.txt"), folder.file("r.svw", record(&[])));
+        for command in ["judge", "batch", "show"] {
+            let mut words = vec![command, text.as_str()];
+            words.extend((command != "show").then_some(file.as_str()));
+            let said = kit(words);
+            let told = format!("\n{assertion}: {hollow}");
+            assert!((said.out + &said.err).contains(&told), "{told}");
+        }
+    }
 }

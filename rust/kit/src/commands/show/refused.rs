@@ -1,19 +1,19 @@
 //! Why a table is refused, with what was found in it.
 use super::form::{self, count, version, TABLE};
 use super::nodes;
-use crate::assertion::{Assertion, Operator, Sort};
-use crate::names::Names;
+use crate::assertion::{Operator, Sort};
 use crate::notation;
-use crate::refusals::{self, HOLLOW};
+use crate::refusals;
 use crate::source::Source;
 use xistomar::Refusal;
 
 /// The program's line, the page's words, what was found, and the nodes around a refused one.
 pub fn report(source: &Source, refusal: Refusal) -> String {
-    let (table, names) = (&source.table, &source.names);
+    let table = &source.table;
     let found = match refusal.number() {
+        9 => refusals::hollow_part(source, refusal.node()),
         13 => refusals::past(source).trim_end().to_string(),
-        _ => found(table, names, refusal),
+        _ => found(table, refusal),
     };
     let mut report = form::report(refusal, &found);
     if matches!(refusal.number(), 6 | 7 | 9) {
@@ -24,7 +24,7 @@ pub fn report(source: &Source, refusal: Refusal) -> String {
 }
 
 /// What was found in the table.
-fn found(table: &[u8], names: &Names, refusal: Refusal) -> String {
+fn found(table: &[u8], refusal: Refusal) -> String {
     let node = refusal.node();
     match refusal.number() {
         6 => faults(table, node).join("\n"),
@@ -34,7 +34,6 @@ fn found(table: &[u8], names: &Names, refusal: Refusal) -> String {
             let [operator, ..] = bytes(table, root);
             format!("the root is node {root}, a {}", nodes::called(operator))
         }
-        9 => hollow(table, names, node),
         _ => form::found(table, &TABLE, refusal),
     }
 }
@@ -140,13 +139,5 @@ fn places(table: &[u8], node: usize) -> String {
             let above = above.join(", ");
             format!("node {node} stands in {count} operand places: of nodes {above}")
         }
-    }
-}
-
-/// Refusal 9: the part, and what it means.
-fn hollow(table: &[u8], names: &Names, node: usize) -> String {
-    match Assertion::of_readable(table) {
-        Ok(assertion) => format!("{}: {HOLLOW}", notation::phrase(&assertion, node, names)),
-        Err(_) => HOLLOW.to_string(),
     }
 }

@@ -62,8 +62,9 @@ fn an_operator_that_makes_a_property_is_named_where_a_sequence_is_due() {
             ": a boolean is turned round by !",
         ),
         ("weak(a |-> strong(b))", 8, "|->", ""),
+        ("a ##1 nexttime b |=> strong(c)", 7, "nexttime", ""),
     ];
-    let due = "a sequence is due here, as everywhere in strong(..), in weak(..) and left of |->";
+    let due = "a sequence is due here, as everywhere in strong(..), in weak(..) and left of |->, |=>, #-# and #=#";
     for (text, column, operator, hint) in cases {
         let words = format!("`{operator}` makes a property, and {due}{hint}");
         assert_eq!(mistake(text), (2, column, words), "{text}");

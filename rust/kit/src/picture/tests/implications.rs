@@ -32,6 +32,32 @@ fn a_row_marks_where_it_was_asked_and_where_it_was_only_reached() {
     assert_eq!(marks(&held), [[vec![(238.0, 224.0)], reached]]);
 }
 
+/// always (a |=> strong(a)): nodes 1 and 3
+#[test]
+fn a_disc_stands_where_the_right_side_is_asked() {
+    let nodes = [
+        [1, 0, 0],
+        [16, 0, 0],
+        [16, 0, 0],
+        [32, 2, 0],
+        [41, 1, 3],
+        [44, 4, 0],
+    ];
+    let row = |samples: &[u64]| {
+        let drawn = drawn(&scene(&table_3(&nodes), &["a"], samples));
+        let [marks] = &marks(&drawn)[..] else {
+            panic!("one row");
+        };
+        marks
+            .clone()
+            .map(|marks| marks.iter().map(|(x, _)| *x).collect::<Vec<_>>())
+    };
+    // columns of 80 from 118 on: the match at sample 1 asks at sample 2, and that there at none yet
+    assert_eq!(row(&[0, 1, 1]), [vec![318.0], vec![158.0, 238.0]]);
+    // the match at sample 2 has no sample after it
+    assert_eq!(row(&[0, 0, 1]), [vec![], vec![158.0, 238.0, 318.0]]);
+}
+
 #[test]
 fn a_row_is_called_by_its_left_side() {
     let names = Names::of(&["ack", "drop", "strobe"]);
@@ -74,5 +100,5 @@ fn without_an_implication_there_is_no_row_and_no_legend_for_it() {
     }
     assert!(texts(&drawn, "legend")
         .iter()
-        .all(|words| !words.contains("|->")));
+        .all(|words| !words.contains("asked") && !words.contains("reached")));
 }

@@ -9,7 +9,7 @@ mod words;
 use super::{draw, Scene};
 use crate::engine::{Engine, Engines};
 use crate::names::Names;
-use crate::testing::{table, table_2};
+use crate::testing::{table, table_2, table_3};
 use elements::{elements, Element};
 
 /// always (ack |-> strong((!drop)[*1:$] ##0 strobe))

@@ -32,6 +32,10 @@ fn the_heading_says_what_was_not_asked() {
     let unasked = "tested, but not every |-> was asked";
     assert_eq!(heading(both, &[2]), said("level 3 tested yes", unasked));
     assert_eq!(heading(both, &[3]), said("level 3 tested yes", ""));
+    // the operators that were written: a without b at sample 0, and nothing after it
+    let others = "(a |=> strong(b)) and ((b #-# strong(a)) or strong(a))";
+    let unasked = "tested, but not every |=> or #-# was asked";
+    assert_eq!(heading(others, &[1]), said("level 2 tested yes", unasked));
 }
 
 #[test]
@@ -69,8 +73,8 @@ fn the_legend_has_the_levels_and_the_marks() {
         "broken, whatever comes next",
         "clock tick",
         "level closed",
-        "|-> asked: its left side matched",
-        "|-> only reached",
+        "right side asked",
+        "implication only reached",
     ];
     assert_eq!(texts(&drawn, "legend"), words);
 }

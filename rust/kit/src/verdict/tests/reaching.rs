@@ -1,11 +1,15 @@
 //! Where parts are reached, on random tables and records: against the rules at the head of `reached.rs` taken
 //! one by one, with every part asked of the library as a table of its own; and against the judge's flag.
 use super::super::asked::Asked;
+use super::super::awaiting::Awaiting;
+use super::super::decisive::decisive;
+use super::super::implications::implications;
 use super::super::reached::{Reached, Reaching};
 use super::expanded;
 use super::random::accepted;
 use crate::assertion::{Assertion, Expanded, Operator, Sort};
 use crate::engine::{Engine, Engines};
+use crate::names::Names;
 use std::collections::HashSet;
 use xistomar::{Judge, Level};
 
@@ -177,6 +181,50 @@ fn every_implication_is_asked_where_each_right_side_is_reached() {
         seen[usize::from(every)] += usize::from(!asked.is_empty());
     }
     assert!(seen.iter().all(|count| *count > 300), "{seen:?}");
+}
+
+/// All matches of the left side of a `|=>` or `#=#`, as it was written, from some samples on.
+fn matched(
+    assertion: &Assertion,
+    samples: &[u64],
+    node: usize,
+    from: &[usize],
+) -> Option<Awaiting> {
+    let left = usize::from(assertion.node(node).x);
+    let mut asked = Asked::new(assertion, samples, samples.len());
+    let matches = from.iter().flat_map(|from| {
+        let ends = asked.matches(left, *from).unwrap().ends();
+        ends.map(|end| (*from, end)).collect::<Vec<_>>()
+    });
+    Awaiting::of(matches, assertion.clock(node).is_some())
+}
+
+#[test]
+fn what_matched_and_was_never_asked_is_awaited() {
+    let (mut listed, mut parts) = ([0; 2], [0; 2]);
+    for (assertion, samples, verdict) in accepted(0..20_000) {
+        let all = implications(&assertion.table(), &Names::none(), &samples).unwrap();
+        for it in all {
+            if it.operator.asks_later() && !it.asked() {
+                let expected = matched(&assertion, &samples, it.node, &it.reached);
+                assert_eq!(it.awaiting, expected, "{assertion:?} {samples:?}");
+                listed[usize::from(expected.is_some())] += 1;
+            }
+        }
+        let part = decisive(&expanded(&assertion), &samples, &verdict).unwrap();
+        let operator = assertion.node(part.node).operator;
+        if operator.asks_later() && !part.asked {
+            let samples = &samples[..part.closed.map_or(samples.len(), |sample| sample + 1)];
+            let expected = matched(&assertion, samples, part.node, &[part.from]);
+            assert_eq!(part.awaiting, expected, "{assertion:?} {samples:?}");
+            parts[usize::from(expected.is_some())] += 1;
+        }
+    }
+    let seen = listed.iter().chain(&parts);
+    assert!(
+        seen.clone().all(|count| *count > 20),
+        "{listed:?} {parts:?}"
+    );
 }
 
 /// Document 02: strong and weak are tested, and every other property where one of them is reached; those
