@@ -40,9 +40,7 @@ pub fn more(source: &Source, refusal: Refusal) -> String {
 /// What to do about refusal 13, in lines: shorten what is written out to too much, or ask the plain engine.
 pub fn past(source: &Source) -> String {
     match sizes::past(&source.table, &source.names) {
-        Some((words, lines)) => {
-            format!("Of these parts one is to be shortened: {words}. Each counts with all that stands in it.\n{lines}")
-        }
+        Some((words, lines)) => format!("No engine judges it: {words}.\n{lines}"),
         None => PAST.to_string(),
     }
 }

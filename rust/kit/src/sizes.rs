@@ -5,9 +5,12 @@
 use crate::assertion::{Assertion, Node, Operator, Sort, MOST_NODES};
 use crate::names::Names;
 use crate::notation;
+use crate::words;
+use std::cmp::Reverse;
 
-/// The parts that are listed, at most.
+/// The parts that are listed, at most, and the characters of each.
 const LISTED: usize = 8;
+const SHOWN: usize = 60;
 
 /// A number that is not told exactly any more.
 const VAST: u128 = 1_000_000;
@@ -19,9 +22,9 @@ pub struct Sizes {
     pub booleans: u128,
     /// All nodes.
     pub all: u128,
-    /// For each node how many nodes it is written out to at all its places, with all below it and without
-    /// booleans.
-    parts: Vec<u128>,
+    /// For each node how many nodes it is written out to at one place, with all below it and without booleans,
+    /// and at how many places it is written.
+    parts: Vec<(u128, u128)>,
 }
 
 impl Sizes {
@@ -36,14 +39,10 @@ impl Sizes {
         let boolean = |node: &&Node| is_boolean(node) || makes_boolean(node);
         let booleans = nodes.iter().filter(boolean).count() as u128;
         let root = once.last().copied().unwrap_or(0);
-        let places = places(assertion);
-        let parts = once.iter().zip(places);
         Sizes {
             booleans,
             all: booleans.saturating_add(root),
-            parts: parts
-                .map(|(once, places)| once.saturating_mul(places))
-                .collect(),
+            parts: once.into_iter().zip(places(assertion)).collect(),
         }
     }
 
@@ -58,18 +57,45 @@ impl Sizes {
         format!("written out it has {all} nodes, and {MOST_NODES} is the most")
     }
 
-    /// A line for each part with a derived operator, the largest first, and for the booleans.
+    /// What is counted, a line for each part with a derived operator, the largest first, how many parts are left
+    /// out, and a line for the booleans.
     pub fn lines(&self, assertion: &Assertion, names: &Names) -> String {
         let derived = assertion.nodes().iter().zip(&self.parts).enumerate();
         let derived = derived.filter(|(_, (node, _))| node.operator.is_derived());
-        let mut parts: Vec<(usize, u128)> = derived.map(|(it, (_, count))| (it, *count)).collect();
-        parts.sort_by_key(|(index, count)| (std::cmp::Reverse(*count), *index));
-        let listed = parts.iter().take(LISTED).map(|(index, count)| {
+        let mut parts: Vec<(u128, usize, String)> = derived
+            .map(|(index, (_, (once, places)))| {
+                let count = once.saturating_mul(*places);
+                (count, index, at_places(*once, *places))
+            })
+            .collect();
+        parts.sort_by_key(|(count, index, _)| (Reverse(*count), *index));
+        let mut lines = COUNTED.to_string();
+        for (count, index, places) in parts.iter().take(LISTED) {
             let part = notation::phrase(assertion, *index, names);
-            line(*count, &part)
-        });
-        let listed: String = listed.collect();
-        listed + &line(self.booleans, "booleans")
+            let part = words::cut(&part, SHOWN);
+            lines.push_str(&line(&number(*count), &format!("{part}{places}")));
+        }
+        if let Some(more) = parts.len().checked_sub(LISTED).filter(|more| *more > 0) {
+            let more = words::count(more, "more part");
+            lines.push_str(&line("", &format!("and {more}")));
+        }
+        lines + &line(&number(self.booleans), "booleans")
+    }
+}
+
+/// What the number of each part counts.
+const COUNTED: &str =
+    "One of these parts is to be shortened. Each is told with its nodes at all its places, all that stands in it \
+     included:\n";
+
+/// `, 24 at each of 9 places`; nothing where there is one place.
+fn at_places(once: u128, places: u128) -> String {
+    match places {
+        0 | 1 => String::new(),
+        _ => {
+            let [once, places] = [once, places].map(number);
+            format!("  ({once} at each of {places} places)")
+        }
     }
 }
 
@@ -82,8 +108,8 @@ pub fn past(table: &[u8], names: &Names) -> Option<(String, String)> {
     sizes.past().then(words)
 }
 
-fn line(count: u128, what: &str) -> String {
-    format!("{:>10}  {what}\n", number(count))
+fn line(count: &str, what: &str) -> String {
+    format!("{count:>10}  {what}\n")
 }
 
 fn number(count: u128) -> String {
@@ -220,15 +246,29 @@ mod tests {
         let (words, lines) = told("strong(a[*0:8] ##1 b[->5])");
         assert_eq!(words, "written out it has 151 nodes, and 120 is the most");
         let expected = "        98  a[*0:8]\n        48  b[->5]\n         3  booleans\n";
-        assert_eq!(lines, expected);
+        assert_eq!(lines, format!("{COUNTED}{expected}"));
     }
 
     #[test]
     fn what_is_copied_counts_at_each_place() {
         // b[->2] is 24 nodes, and stands at 1 + 2 + 3 + 4 places
         let (_, lines) = told("strong(b[->2][*0:3])");
-        assert!(lines.contains("       240  b[->2]\n"), "{lines}");
+        let places = "       240  b[->2]  (24 at each of 10 places)\n";
+        assert!(lines.contains(places), "{lines}");
         assert!(lines.contains("       253  b[->2][*0:3]\n"), "{lines}");
+    }
+
+    /// Eighteen a[*2] of 6 nodes, what joins them, strong and a are 127; the part with [*0:3] has 69 characters.
+    #[test]
+    fn long_parts_are_cut_and_the_rest_is_counted() {
+        let many = vec!["a[*2]"; 18].join(" ##1 ");
+        let (_, lines) = told(&format!("strong({many})"));
+        assert!(lines.contains("            and 10 more parts\n"), "{lines}");
+        assert_eq!(lines.lines().count(), 1 + LISTED + 2);
+        let long = format!("({}b)[*0:3]", "a ##1 ".repeat(10));
+        let (_, lines) = told(&format!("strong({long})"));
+        let cut = "       223  (a ##1 a ##1 a ##1 a ##1 a ##1 a .. ##1 a ##1 b)[*0:3]\n";
+        assert!(lines.contains(cut), "{lines}");
     }
 
     #[test]
@@ -239,7 +279,7 @@ mod tests {
             words,
             "written out it has 1,000,000+ nodes, and 120 is the most"
         );
-        assert_eq!(lines.lines().count(), LISTED + 1);
+        assert_eq!(lines.lines().count(), 1 + LISTED + 2);
     }
 
     #[test]

@@ -66,6 +66,20 @@ pub fn shortened(word: &str) -> String {
     }
 }
 
+/// A text of more than so many characters without its middle, cut at blanks: `(a ##1 a .. b)[*0:3]`.
+pub fn cut(text: &str, most: usize) -> String {
+    let characters: Vec<char> = text.chars().collect();
+    if characters.len() <= most {
+        return text.to_string();
+    }
+    let last = most / 3;
+    let first: String = characters.iter().take(most - last - 4).collect();
+    let last: String = characters.iter().skip(characters.len() - last).collect();
+    let first = first.rsplit_once(' ').map_or(first.as_str(), |cut| cut.0);
+    let last = last.split_once(' ').map_or(last.as_str(), |cut| cut.1);
+    format!("{first} .. {last}")
+}
+
 #[cfg(test)]
 mod tests {
     use super::*;
@@ -104,5 +118,14 @@ mod tests {
     fn a_long_word_is_cut_between_characters() {
         assert_eq!(shortened(&"é".repeat(40)), "é".repeat(40));
         assert_eq!(shortened(&"é".repeat(41)), "é".repeat(40) + "..");
+    }
+
+    #[test]
+    fn a_long_text_loses_its_middle() {
+        assert_eq!(cut("a ##1 b", 7), "a ##1 b");
+        // of 18 the last 6 are kept, and the first 8, for ` .. ` has 4: `aé ##1 b` and `##1 cc`
+        assert_eq!(cut("aé ##1 b ##1 b ##1 cc", 18), "aé ##1 .. cc");
+        // without a blank it is cut anywhere
+        assert_eq!(cut(&"é".repeat(19), 18), "éééééééé .. éééééé");
     }
 }

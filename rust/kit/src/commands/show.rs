@@ -45,10 +45,11 @@ refused node the nodes up to it and two more. A refused record is shown so too.
   RECORD            a file whose name ends in .svw
   --names FILE.txt  a text that declares the signals' names, for a .svt or a .svw; without it signal
                     3 is s3
-  --nodes           the version and the nodes instead of the text: number, operator, x, y, the
-                    fourth byte where it is not 0, and the part of the assertion that the node
-                    stands for
-  --expanded        the table with its derived operators written out, as the judge reads it
+  --nodes           the version and the nodes instead of the text: number, operator, x, y, what
+                    the node is called, with the numbers of its fourth byte, and the part of the
+                    assertion that it stands for
+  --expanded        the table with its derived operators written out; with --nodes node by node as
+                    the judge reads it. A comment tells where the text makes fewer nodes
 
 Examples:
 

@@ -39,7 +39,7 @@ The operators, tightest first, what a signal does, and what makes a property of 
 
   R[*0]   R[*1:$]       nothing at all; R once or more
   R[*3]   R[*2:5]       R three times in a row; two to five times
-  b[->2]   b[=2]        up to the second sample with b; any stretch with two of them
+  b[->2]   b[=2]        up to the second sample with b; any stretch with exactly two of them
   !b   b & c   b | c    not, and, or; 0 and 1 are constants
   R ##1 S   R ##0 S     R and then S; R and S that share one sample
   R ##3 S   R ##[1:4] S S begins three samples after R ends; one to four samples after

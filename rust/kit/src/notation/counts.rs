@@ -2,7 +2,7 @@
 use crate::assertion::Operator;
 
 /// The most that a table's byte has room for.
-const MOST: u8 = 15;
+pub const MOST: u8 = 15;
 
 /// An operator with its fourth byte.
 pub type Counted = (Operator, u8);
@@ -18,15 +18,16 @@ pub fn repetition(inside: &str) -> Result<Option<Counted>, String> {
             None => return Ok(None),
         },
     };
-    match (operator, bounds(numbers)?) {
-        (Operator::Times, Some((m, n))) => Ok(Some((operator, m + 16 * n))),
-        (_, Some((m, n))) if m == n && !numbers.contains(':') => Ok(Some((operator, m))),
-        _ => Ok(None),
+    match operator {
+        Operator::Times => Ok(bounds(numbers)?.map(|(m, n)| (operator, m + 16 * n))),
+        // b[->m:n] and b[=m:n] are left to the hints, whatever their numbers
+        _ if numbers.contains(':') => Ok(None),
+        _ => Ok(bounds(numbers)?.map(|(m, _)| (operator, m))),
     }
 }
 
 /// The operator by the sign before its numbers.
-fn split(inside: &str) -> Option<(Operator, &str)> {
+pub fn split(inside: &str) -> Option<(Operator, &str)> {
     let signs = [
         ("*", Operator::Times),
         ("->", Operator::Goto),
@@ -52,19 +53,35 @@ pub fn delay(after: &str) -> Result<Option<Counted>, String> {
 
 /// The numbers of `m` or `m:n`; none where they are no numbers, and words where they are not good.
 fn bounds(text: &str) -> Result<Option<(u8, u8)>, String> {
+    match pair(text) {
+        Some((m, Some(n))) if m.max(n) > MOST => Err(too_large()),
+        Some((m, Some(n))) if m > n => Err(format!("{}: write {n}:{m}", backwards(m, n))),
+        Some((m, Some(n))) => Ok(Some((m, n))),
+        _ => Ok(None),
+    }
+}
+
+/// The two numbers of `m:n`, of which the second is none for `$`; m alone is m:m. One that is vast is 255.
+pub fn pair(text: &str) -> Option<(u8, Option<u8>)> {
     let (least, most) = text.split_once(':').unwrap_or((text, text));
-    let digits = |text: &str| !text.is_empty() && text.bytes().all(|byte| byte.is_ascii_digit());
-    if !digits(least) || !digits(most) {
-        return Ok(None);
+    let number = |text: &str| {
+        let digits = !text.is_empty() && text.bytes().all(|byte| byte.is_ascii_digit());
+        digits.then(|| text.parse().unwrap_or(u8::MAX))
+    };
+    match most {
+        "$" => Some((number(least)?, None)),
+        _ => Some((number(least)?, Some(number(most)?))),
     }
-    let small = |text: &str| text.parse().ok().filter(|number| *number <= MOST);
-    match (small(least), small(most)) {
-        (Some(m), Some(n)) if m <= n => Ok(Some((m, n))),
-        (Some(m), Some(n)) => Err(format!("{m} to {n} counts backwards: write {n}:{m}")),
-        _ => Err(format!(
-            "a repetition or delay counts to {MOST} at most: two in a row go further"
-        )),
-    }
+}
+
+/// The words for numbers that are above [`MOST`].
+pub fn too_large() -> String {
+    format!("numbers go to {MOST} at most: two repetitions or delays in a row go further")
+}
+
+/// The words for two numbers of which the first is above the second.
+pub fn backwards(m: u8, n: u8) -> String {
+    format!("{m} to {n} counts backwards")
 }
 
 #[cfg(test)]
@@ -103,7 +120,7 @@ mod tests {
     #[test]
     fn other_forms_are_left_to_the_hints() {
         for inside in [
-            "", "+", "*", "*0:$", "*2:$", "->1:2", "=1:$", "3", "*a", "*1:2:3",
+            "", "+", "*", "*0:$", "*2:$", "->1:2", "->2:1", "=1:99", "=1:$", "3", "*a", "*1:2:3",
         ] {
             assert_eq!(repeated(inside), None, "{inside}");
         }

@@ -2,7 +2,7 @@
 use super::lexer::{Kind, Token};
 use super::mistake::Mistake;
 use super::operands::Wanted;
-use super::parser::{character, Parser};
+use super::parser::{character, Parser, PREFIXES};
 use super::RESERVED;
 use crate::assertion::Sort;
 use crate::names::NAMES_HAVE;
@@ -42,7 +42,8 @@ impl<'a> Parser<'a> {
             "strong" | "weak" | "rose" | "fell" => after.text == "(",
             word => {
                 let name = after.kind == Kind::End || ["=", ","].contains(&after.text);
-                RESERVED.contains(&word) && !name
+                let begins = PREFIXES.contains(&word) || ["signals", "let"].contains(&word);
+                begins && !name
             }
         }
     }

@@ -1,9 +1,10 @@
 //! What people write who know SystemVerilog or another language, and what to write instead.
-use crate::assertion::Operator;
+use super::numbered;
+pub use super::numbered::{prefix, takes_numbers};
 use std::fmt;
 
 /// What to write instead.
-#[derive(Clone, Copy, Debug, PartialEq, Eq)]
+#[derive(Clone, Debug, PartialEq, Eq)]
 pub enum Hint {
     /// A form, and the same in the notation. P, Q stand for properties, R, S for sequences and
     /// a, b, c for booleans. What is put in for a letter may bind as loosely as it may in the form, so
@@ -11,18 +12,24 @@ pub enum Hint {
     Written(&'static str, &'static str),
     /// The same, and more words.
     Noted(&'static str, &'static str, &'static str),
+    /// A form and the same in the notation, with the numbers that were given.
+    Made(String, String),
     /// In other words.
     Words(&'static str),
+    /// In words with the numbers that were given.
+    Told(String),
 }
 
-use Hint::{Noted, Words, Written};
+use Hint::{Made, Noted, Told, Words, Written};
 
 impl fmt::Display for Hint {
     fn fmt(&self, f: &mut fmt::Formatter<'_>) -> fmt::Result {
         match self {
             Written(form, instead) => write!(f, "`{form}` is written `{instead}`"),
             Noted(form, instead, more) => write!(f, "`{form}` is written `{instead}`{more}"),
+            Made(form, instead) => write!(f, "`{form}` is written `{instead}`"),
             Words(words) => f.write_str(words),
+            Told(words) => f.write_str(words),
         }
     }
 }
@@ -38,14 +45,8 @@ pub fn of(text: &str) -> Option<Hint> {
 /// The hint for what stands between `[` and `]` after a part, without blanks, where it is no repetition
 /// of the notation.
 pub fn repetition(inside: &str) -> Hint {
-    let endless = inside.ends_with(":$");
-    let counts = inside.contains(|c: char| c.is_ascii_digit());
-    find(&REPETITIONS, inside).unwrap_or(match inside.chars().next() {
-        Some('*') if endless && counts => Written("R[*2:$]", "(R ##1 R[*1:$])"),
-        Some('-') if endless => Written("b[->1:$]", "b[->1][*1:$]"),
-        Some('=') if endless => Written("b[=1:$]", "(b[->1][*1:$] ##1 b[=0])"),
-        Some('-') if counts => Written("b[->1:2]", "(b[->1] or b[->2])"),
-        Some('=') if counts => Written("b[=1:2]", "(b[=1] or b[=2])"),
+    let known = find(&REPETITIONS, inside).or_else(|| numbered::repetition(inside));
+    known.unwrap_or(match inside.chars().next() {
         Some('*' | '-' | '=') => {
             Words("a repetition is written `R[*3]`, `R[*2:5]`, `b[->2]` or `b[=2]`")
         }
@@ -55,20 +56,12 @@ pub fn repetition(inside: &str) -> Hint {
 
 /// The hint for what follows `##`, without blanks, where it is no delay of the notation.
 pub fn delay(after: &str) -> Hint {
-    find(&DELAYS, after).unwrap_or(match after {
-        _ if after.ends_with(":$]") => Written("R ##[2:$] S", "(R ##1 1[*1:$] ##1 S)"),
-        _ => Words("a delay is written `R ##3 S` or `R ##[1:4] S`"),
-    })
+    numbered::delay(after).unwrap_or(DELAY)
 }
 
-/// The hint for a number in brackets after a word that stands before a property.
-pub fn counted(operator: Operator) -> Option<Hint> {
-    match operator {
-        Operator::Nexttime => Some(COUNTED_NEXT),
-        Operator::StrongNexttime => Some(COUNTED_STRONG_NEXT),
-        Operator::Always | Operator::Eventually => Some(RANGED),
-        _ => None,
-    }
+/// The hint for a `##` with nothing before it, by what follows it without blanks.
+pub fn leading_delay(after: &str) -> Hint {
+    numbered::leading_delay(after).unwrap_or(DELAY)
 }
 
 /// The signs that are not part of the notation and have a hint.
@@ -79,7 +72,7 @@ pub fn signs() -> impl Iterator<Item = &'static str> {
 
 fn find(table: &[(&str, Hint)], text: &str) -> Option<Hint> {
     let row = table.iter().find(|(known, _)| *known == text)?;
-    Some(row.1)
+    Some(row.1.clone())
 }
 
 const FUNCTION: Hint = Words(
@@ -90,9 +83,7 @@ const BIT: Hint = Words(
     "a repetition such as `R[*3]` was expected: a signal has one bit, so each bit of a bus is a signal \
      of its own",
 );
-const RANGED: Hint = Words(
-    "always and s_eventually have no range here: `nexttime P` and `s_nexttime P` go one sample on",
-);
+const DELAY: Hint = Words("a delay is written `R ##3 S` or `R ##[1:4] S`");
 const EQUAL: Hint = Noted(
     "a == b",
     "(((a) & (b)) | (!(a) & !(b)))",
@@ -108,7 +99,10 @@ const SET_UP: Hint = Words(
     "the assertion stands alone, without `assert property (..);` or a name around it, and is asked at \
      the first sample only: `always P` asks P at every one",
 );
-const RESET: Hint = Words("resets are not part of the notation: take them out of the record");
+const RESET: Hint = Words(
+    "resets are not part of the notation: judge a record that begins after the reset, as `kit record \
+     --from TIME` takes it, and ends before the next one, by its `--count N`",
+);
 const ABSENT: Hint =
     Words("this operator is not part of the notation: kit table --help lists those that are");
 const POSEDGE: Hint = Words(
@@ -129,13 +123,6 @@ const JOINED: Hint = Words(
 );
 const DECLARE: Hint = Words("signals are declared in lines that begin with the word signals");
 const EVENTUALLY: Hint = Words("that P comes is said by `s_eventually P`");
-
-/// The hint for a `##` with nothing before it.
-pub const LEADING_DELAY: Hint = Written("##1 R", "1 ##1 R");
-/// The hint for a number after `nexttime`.
-pub const COUNTED_NEXT: Hint = Written("nexttime[2] P", "nexttime nexttime (P)");
-/// The hint for a number after `s_nexttime`.
-pub const COUNTED_STRONG_NEXT: Hint = Written("s_nexttime[2] P", "s_nexttime s_nexttime (P)");
 
 /// Words and signs, each with its hint.
 pub const FOREIGN: [(&str, Hint); 74] = [
@@ -177,7 +164,10 @@ pub const FOREIGN: [(&str, Hint); 74] = [
     ("%", NUMBERS),
     (
         "#",
-        Words("comments begin with //, and delays are written ##1 and ##[1:3]"),
+        Words(
+            "comments begin with //, delays are written ##1 and ##[1:3], and #-# and #=# are written \
+             without blanks",
+        ),
     ),
     ("/*", COMMENT),
     ("/", COMMENT),
@@ -268,23 +258,7 @@ pub const FUNCTIONS: [(&str, Hint); 5] = [
 ];
 
 /// What may stand between `[` and `]`.
-const REPETITIONS: [(&str, Hint); 3] = [
+const REPETITIONS: [(&str, Hint); 2] = [
     ("+", Written("R[+]", "R[*1:$]")),
     ("*", Written("R[*]", "(R[*0] or R[*1:$])")),
-    ("*0:$", Written("R[*0:$]", "(R[*0] or R[*1:$])")),
 ];
-
-/// What may follow `##`.
-const DELAYS: [(&str, Hint); 5] = [
-    ("[1:$]", LATER),
-    ("[+]", LATER),
-    ("[0:$]", NOW_OR_LATER),
-    ("[*]", NOW_OR_LATER),
-    ("[*0:$]", NOW_OR_LATER),
-];
-
-const LATER: Hint = Written("R ##[1:$] S", "(R ##1 (1[*0] or 1[*1:$]) ##1 S)");
-const NOW_OR_LATER: Hint = Written(
-    "R ##[0:$] S",
-    "((R ##0 S) or (R ##1 (1[*0] or 1[*1:$]) ##1 S))",
-);

@@ -7,6 +7,7 @@ mod hints;
 mod levels;
 mod lexer;
 mod mistake;
+mod numbered;
 mod operands;
 mod operators;
 mod parser;

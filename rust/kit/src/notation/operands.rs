@@ -111,8 +111,8 @@ impl Parser<'_> {
 
     fn prefix(&mut self, operator: Operator, level: u8) -> Result<Part, Mistake> {
         let sign = self.take();
-        if let (Some(hint), "[") = (hints::counted(operator), self.peek().text) {
-            return Err(self.mistake(self.peek().start, hint.to_string()));
+        if hints::takes_numbers(sign.text) && self.peek().text == "[" {
+            return Err(self.counted_prefix(sign));
         }
         // `!` makes a boolean of one, the others a property
         let operand = self.part(level, Wanted::Sort(operator.sort()))?;
@@ -143,6 +143,7 @@ impl Parser<'_> {
             (_, "weak") => Operator::Weak,
             (_, "rose") => return self.edge(Operator::Rose),
             (_, "fell") => return self.edge(Operator::Fell),
+            (_, "##") => return Err(self.leading_delay()),
             (Kind::Number, _) => return self.constant(),
             (Kind::Word, name) if !RESERVED.contains(&name) => return self.name(),
             _ => return Err(self.no_operand(token, wanted)),
@@ -156,12 +157,13 @@ impl Parser<'_> {
 
     /// The message where a part is wanted and none begins.
     fn no_operand(&self, token: Token, wanted: Wanted) -> Mistake {
-        let words = match token.text {
-            "##" => hints::LEADING_DELAY.to_string(),
-            "signals" => "lines with signals stand before those with let".to_string(),
-            _ => return self.unexpected(wanted.called()),
-        };
-        self.mistake(token.start, words)
+        match token.text {
+            "signals" => {
+                let words = "lines with signals stand before those with let";
+                self.mistake(token.start, words.to_string())
+            }
+            _ => self.unexpected(wanted.called()),
+        }
     }
 
     /// A part in parentheses.
@@ -221,6 +223,10 @@ impl Parser<'_> {
             return self.built(Operator::Signal, usize::from(number), 0, token.start);
         }
         let Some(index) = self.defined(token.text) else {
+            if hints::takes_numbers(token.text) && self.second().text == "[" {
+                self.take();
+                return Err(self.counted_prefix(token));
+            }
             return Err(self.unknown(token));
         };
         self.take();

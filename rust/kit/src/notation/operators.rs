@@ -8,6 +8,7 @@ use super::operands::Wanted;
 use super::parser::Parser;
 use super::sorts::Part;
 use crate::assertion::{Operator, Sort};
+use crate::words::shortened;
 
 /// The tokens between `[` and `]` that are looked at, at most.
 const INSIDE: usize = 6;
@@ -84,15 +85,37 @@ impl Parser<'_> {
         })
     }
 
-    /// What follows `##`: a number, or two in brackets.
     fn delay(&mut self, sign: Token) -> Result<Counted, Mistake> {
-        let after = match self.peek() {
+        let after = self.after_delay()?;
+        let found = counts::delay(&after);
+        self.good(found, sign.start, || hints::delay(&after))
+    }
+
+    /// Takes what follows `##`, a number, or two in brackets, and answers it without blanks.
+    fn after_delay(&mut self) -> Result<String, Mistake> {
+        Ok(match self.peek() {
             token if token.text == "[" => format!("[{}]", self.inside()?),
             token if token.kind == Kind::Number => self.take().text.to_string(),
             _ => String::new(),
-        };
-        let found = counts::delay(&after);
-        self.good(found, sign.start, || hints::delay(&after))
+        })
+    }
+
+    /// The mistake of a `##` with nothing before it.
+    pub fn leading_delay(&mut self) -> Mistake {
+        let sign = self.take();
+        match self.after_delay() {
+            Ok(after) => self.mistake(sign.start, hints::leading_delay(&after).to_string()),
+            Err(mistake) => mistake,
+        }
+    }
+
+    /// The mistake of numbers in brackets after a word that stands before a property.
+    pub fn counted_prefix(&mut self, word: Token) -> Mistake {
+        let bracket = self.peek().start;
+        match self.inside() {
+            Ok(inside) => self.mistake(bracket, hints::prefix(word.text, &inside).to_string()),
+            Err(mistake) => mistake,
+        }
     }
 
     /// The repetitions after a part.
@@ -128,22 +151,37 @@ impl Parser<'_> {
         Err(self.mistake(place, words))
     }
 
-    /// Takes `[`, what is inside, and `]`; answers the inside without blanks.
+    /// Takes `[`, what is inside, and `]`; answers the inside without blanks. Two numbers need a sign between
+    /// them: `1 0` is not 10.
     fn inside(&mut self) -> Result<String, Mistake> {
         self.take();
-        let mut inside = String::new();
+        let (mut inside, mut before) = (String::new(), None);
         for _ in 0..INSIDE {
             let token = self.peek();
             let number = matches!(token.kind, Kind::Number | Kind::Word);
             if !number && !["*", ":", "$", "+", "-", "->", "="].contains(&token.text) {
                 break;
             }
+            if let (true, Some(before)) = (number, before) {
+                return Err(self.second_number(before));
+            }
             inside.push_str(self.take().text);
+            before = number.then_some(token);
         }
         if self.peek().text != "]" {
             return Err(self.unexpected("a closing ] after a repetition or a delay"));
         }
         self.take();
         Ok(inside)
+    }
+
+    /// The mistake of a number, or a word, right after another in brackets.
+    fn second_number(&self, before: Token) -> Mistake {
+        let [first, second] = [before, self.peek()].map(|token| shortened(token.text));
+        let words = format!(
+            "one number was expected, or two with a colon as in `2:5`, and here stands `{second}` after \
+             `{first}`"
+        );
+        self.mistake(self.peek().start, words)
     }
 }

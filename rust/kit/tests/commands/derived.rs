@@ -65,7 +65,7 @@ fn an_expansion_is_shown() {
     assert!(given.out.starts_with("version 3, 7 nodes\n"), "{given:?}");
     assert!(given
         .out
-        .contains("op  23  x   3  y   0  fourth 34  [*m:n]            s1[*2]\n"));
+        .contains("op  23  x   3  y   0  [*2:2]            s1[*2]\n"));
     // a table of an older version is its own expansion
     let (older, _) = made(&folder, "strong(a ##1 b)");
     let shown = kit(["show", &older, "--expanded"]);
@@ -77,11 +77,30 @@ fn an_expansion_is_shown() {
     assert_eq!(kit(["show", &record, "--expanded"]).status, 2);
 }
 
+/// a, b, the 1 of `|=>` and the 0 of each always are 5 booleans; strong(b) is 2 nodes, its always 5, `|=>` with a
+/// 9 and the other always 12. The two 0 are one in the text.
+#[test]
+fn an_expansion_says_how_many_nodes_its_text_makes() {
+    let folder = Folder::new();
+    let (table, _) = made(&folder, "always (a |=> always strong(b))");
+    let shown = kit(["show", &table, "--expanded"]);
+    let words = "// written out, 17 nodes\n\
+                 // kit table makes 16 of this text: equal booleans become one, and unused ones go\n";
+    assert!(shown.out.starts_with(words), "{}", shown.out);
+    let text = folder.file("e.txt", shown.out);
+    let again = kit(["table", &text, "-o", &table, "--once"]);
+    assert_eq!(
+        again.line(),
+        format!("{table}: 16 nodes, 2 signals, a property")
+    );
+}
+
 /// a[*0:8] is 98 nodes, b[->5] 48; `##1`, strong, a, b and not b are five more.
 #[test]
 fn what_passes_120_is_told_part_by_part() {
     let folder = Folder::new();
-    let parts = "        98  a[*0:8]\n        48  b[->5]\n         3  booleans\n";
+    let parts = "One of these parts is to be shortened. Each is told with its nodes at all its places, all that \
+                 stands in it included:\n        98  a[*0:8]\n        48  b[->5]\n         3  booleans\n";
     let words = "written out it has 151 nodes, and 120 is the most";
     let (table, said) = made(&folder, "strong(a[*0:8] ##1 b[->5])");
     assert_eq!(said.status, 0);
@@ -94,9 +113,7 @@ fn what_passes_120_is_told_part_by_part() {
         .starts_with(&format!("// no engine judges it: {words}\n")));
 
     let record = folder.file("r.svw", record(&[1]));
-    let told = format!(
-        "Of these parts one is to be shortened: {words}. Each counts with all that stands in it.\n{parts}"
-    );
+    let told = format!("No engine judges it: {words}.\n{parts}");
     for engine in ["both", "fast", "plain"] {
         let said = kit(["judge", &names, &record, "--engine", engine]);
         assert_eq!((said.status, said.line()), (3, "refused 13 at 0"));
@@ -379,6 +396,10 @@ fn a_wrong_fourth_byte_is_told() {
     let times = shown(3, &[a, letter, [23, 1, 0, 0x12]]);
     let found = "bad fourth byte: it is 18, which is 2 + 16 times 1, and the first number is at most the second\n";
     assert!(times.contains(found), "{times}");
+    assert!(
+        times.contains("\n>   2  op  23  x   1  y   0  [*2:1]\n"),
+        "{times}"
+    );
     let goto = shown(3, &[a, [25, 0, 0, 16]]);
     assert!(
         goto.contains("bad fourth byte: it is 16, and 15 is the most\n"),
@@ -386,6 +407,7 @@ fn a_wrong_fourth_byte_is_told() {
     );
     let always = shown(3, &[a, letter, [32, 1, 0, 0], [44, 2, 0, 1]]);
     assert!(always.contains("fourth byte not 0: it is 1\n"), "{always}");
+    assert!(always.contains("  always, fourth byte 1\n"), "{always}");
     let older = shown(2, &[a, letter, [23, 1, 0, 0x11]]);
     let found = "operator 23 ([*m:n]) needs version 3, and this table has version 2: with 3 in byte 3 it is known\n";
     assert!(older.contains(found), "{older}");

@@ -272,7 +272,7 @@ fn a_refused_node_is_shown_among_the_others() {
         "refused 6 at 2\n{page}\nunknown operator: 99\n\n\
          \x20   0  op   1  x   0  y   0  signal\n\
          \x20   1  op  16  x   0  y   0  letter\n\
-         >   2  op  99  x   0  y   0  fourth 5  unknown operator\n\
+         >   2  op  99  x   0  y   0  unknown operator, fourth byte 5\n\
          \x20   3  op   0  x   0  y   0  constant\n\
          \x20   4  op   0  x   0  y   0  constant\n"
     );

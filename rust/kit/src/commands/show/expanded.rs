@@ -14,11 +14,14 @@ pub fn of(source: &Source) -> Result<Source, Refusal> {
     })
 }
 
-/// The text of an expansion, after a comment that says how many nodes it has.
+/// The text of an expansion, after comments that say how many nodes it has, and how many its text makes.
 pub fn text(assertion: &Assertion, names: &Names) -> String {
-    let count = words::count(assertion.nodes().len(), "node");
-    format!(
-        "// written out, {count}\n{}",
-        notation::write(assertion, names)
-    )
+    let [all, fewer] = [assertion.nodes().len(), assertion.tidy().nodes().len()];
+    let mut text = format!("// written out, {}\n", words::count(all, "node"));
+    if fewer < all {
+        text.push_str(&format!(
+            "// kit table makes {fewer} of this text: equal booleans become one, and unused ones go\n"
+        ));
+    }
+    text + &notation::write(assertion, names)
 }

@@ -49,12 +49,25 @@ pub fn called(number: u8) -> &'static str {
     row.map_or("unknown operator", |(_, called)| called)
 }
 
-/// What the operator with a number is called in a table of this version.
-fn called_in(version: u16, number: u8) -> String {
-    let called = called(number);
-    match Operator::of(number) {
+/// What a node is called by its operator and its fourth byte.
+fn called_node([number, _, _, fourth]: [u8; 4]) -> String {
+    let (m, n) = (fourth % 16, fourth / 16);
+    match (Operator::of(number), fourth) {
+        (Some(Operator::Times), _) => format!("[*{m}:{n}]"),
+        (Some(Operator::Delay), _) => format!("##[{m}:{n}]"),
+        (Some(Operator::Goto), m) => format!("[->{m}]"),
+        (Some(Operator::Nonconsecutive), m) => format!("[={m}]"),
+        (_, 0) => called(number).to_string(),
+        _ => format!("{}, fourth byte {fourth}", called(number)),
+    }
+}
+
+/// What a node is called in a table of this version.
+fn called_in(version: u16, node: [u8; 4]) -> String {
+    let called = called_node(node);
+    match Operator::of(node[0]) {
         Some(known) if known.since() > version => format!("{called}, of version {}", known.since()),
-        _ => called.to_string(),
+        _ => called,
     }
 }
 
@@ -63,10 +76,9 @@ pub fn accepted(table: &[u8], assertion: &Assertion, names: &Names) -> String {
     let count = words::count(assertion.nodes().len(), "node");
     let mut lines = format!("version {}, {count}\n", version(table));
     for (index, node) in assertion.nodes().iter().enumerate() {
-        let operator = node.operator as u8;
         let part = notation::phrase(assertion, index, names);
-        let words = format!("{:<16}  {part}", called(operator));
-        let bytes = [operator, node.x, node.y, node.fourth];
+        let bytes = [node.operator as u8, node.x, node.y, node.fourth];
+        let words = format!("{:<16}  {part}", called_node(bytes));
         lines.push_str(&line(' ', index, bytes, &words));
     }
     lines
@@ -79,19 +91,15 @@ pub fn around(table: &[u8], marked: usize) -> String {
     for (index, node) in bytes.chunks_exact(4).enumerate().take(marked + 3) {
         let mark = if index == marked { '>' } else { ' ' };
         if let [operator, x, y, fourth] = *node {
-            let words = called_in(version(table), operator);
-            lines.push_str(&line(mark, index, [operator, x, y, fourth], &words));
+            let node = [operator, x, y, fourth];
+            let words = called_in(version(table), node);
+            lines.push_str(&line(mark, index, node, &words));
         }
     }
     lines
 }
 
-/// One node: its mark, number, four bytes, and words for it. The fourth byte is shown where it is not 0.
-fn line(mark: char, index: usize, node: [u8; 4], words: &str) -> String {
-    let [operator, x, y, fourth] = node;
-    let fourth = match fourth {
-        0 => String::new(),
-        _ => format!("fourth {fourth}  "),
-    };
-    format!("{mark} {index:>3}  op {operator:>3}  x {x:>3}  y {y:>3}  {fourth}{words}\n")
+/// One node: its mark, number, operator, x and y, and words for it, which tell the fourth byte.
+fn line(mark: char, index: usize, [operator, x, y, _]: [u8; 4], words: &str) -> String {
+    format!("{mark} {index:>3}  op {operator:>3}  x {x:>3}  y {y:>3}  {words}\n")
 }

@@ -141,6 +141,12 @@ fn declarations_that_are_wrong_are_shown_at_their_place() {
             "a new line is due here: declarations and the assertion begin one",
         ),
         (
+            "signals a s_until b",
+            1,
+            11,
+            "s_until is a word of the notation and names no signal: s_until_ would do",
+        ),
+        (
             "signals a b;",
             1,
             12,
@@ -150,7 +156,7 @@ fn declarations_that_are_wrong_are_shown_at_their_place() {
             "signals a # b",
             1,
             11,
-            "comments begin with //, and delays are written ##1 and ##[1:3]",
+            "comments begin with //, delays are written ##1 and ##[1:3], and #-# and #=# are written without blanks",
         ),
     ];
     for (text, line, column, words) in cases {

@@ -6,7 +6,7 @@ use crate::verdict::Suffixes;
 use xistomar::{Judge, Level};
 
 /// A form with texts put in for its letters: P and Q, R and S, a, b and c.
-fn filled(form: &str, texts: &[(char, &str)]) -> String {
+pub fn filled(form: &str, texts: &[(char, &str)]) -> String {
     let letters: Vec<char> = form.chars().collect();
     let mut filled = String::new();
     for (place, letter) in letters.iter().enumerate() {
@@ -23,33 +23,30 @@ fn filled(form: &str, texts: &[(char, &str)]) -> String {
     filled
 }
 
-/// Every rewriting that a hint gives, by its form.
-fn rewritings() -> Vec<(&'static str, &'static str)> {
-    let inside = ["+", "*", "*0:$", "*2:$", "->1:2", "->1:$", "=1:2", "=1:$"];
-    let after = ["[1:$]", "[2:$]", "[0:$]", "[+]", "[*]"];
-    let others = [
-        hints::LEADING_DELAY,
-        hints::COUNTED_NEXT,
-        hints::COUNTED_STRONG_NEXT,
-    ];
-    let hints = FOREIGN.iter().map(|(_, hint)| *hint);
-    let hints = hints.chain(inside.iter().map(|text| hints::repetition(text)));
-    let hints = hints.chain(after.iter().map(|text| hints::delay(text)));
-    let hints = hints.chain(others);
-    let written = |hint| match hint {
-        Hint::Written(form, instead) | Hint::Noted(form, instead, _) => Some((form, instead)),
-        Hint::Words(_) => None,
-    };
+/// Every rewriting that a hint without numbers of its own gives, by its form.
+fn rewritings() -> Vec<(String, String)> {
+    let hints = FOREIGN.iter().map(|(_, hint)| hint.clone());
+    let hints = hints.chain(["+", "*"].map(hints::repetition));
     hints.filter_map(written).collect()
 }
 
-/// The rewriting of a form; the form itself where it is part of the notation.
-fn rewriting(form: &'static str) -> &'static str {
-    if DERIVED.contains(&form) {
-        return form;
+/// A form, and what a hint says to write for it.
+pub fn written(hint: Hint) -> Option<(String, String)> {
+    match hint {
+        Hint::Written(form, instead) | Hint::Noted(form, instead, _) => {
+            Some((form.to_string(), instead.to_string()))
+        }
+        Hint::Made(form, instead) => Some((form, instead)),
+        Hint::Words(_) | Hint::Told(_) => None,
     }
-    let all = rewritings();
-    let found = all.iter().find(|(known, _)| *known == form);
+}
+
+/// The rewriting of a form; the form itself where it is part of the notation.
+fn rewriting(form: &str) -> String {
+    if DERIVED.contains(&form) {
+        return form.to_string();
+    }
+    let found = rewritings().into_iter().find(|(known, _)| known == form);
     found.unwrap_or_else(|| panic!("{form} has no rewriting")).1
 }
 
@@ -75,7 +72,7 @@ const DERIVED: [&str; 17] = [
 ];
 
 /// Forms that are not part of the notation.
-const FORMS: [&str; 25] = [
+const FORMS: [&str; 13] = [
     "a -> b",
     "a == b",
     "a != b",
@@ -89,18 +86,6 @@ const FORMS: [&str; 25] = [
     "if (b) P else Q",
     "R[+]",
     "R[*]",
-    "R[*0:$]",
-    "R[*2:$]",
-    "b[->1:2]",
-    "b[->1:$]",
-    "b[=1:2]",
-    "b[=1:$]",
-    "R ##[1:$] S",
-    "R ##[2:$] S",
-    "R ##[0:$] S",
-    "##1 R",
-    "nexttime[2] P",
-    "s_nexttime[2] P",
 ];
 
 #[test]
@@ -114,11 +99,13 @@ fn every_rewriting_is_read_and_every_form_is_known() {
         ('b', "e"),
         ('c', "f"),
     ];
-    for (form, instead) in rewritings() {
-        assert!(FORMS.contains(&form), "{form} is not tried below");
-        table(&filled(instead, &texts));
+    for (form, _) in rewritings() {
+        assert!(FORMS.contains(&form.as_str()), "{form} is not tried below");
+    }
+    for (form, instead) in rewritings().into_iter().chain(numbered::rewritings()) {
+        table(&filled(&instead, &texts));
         // the form itself is not read
-        assert!(read(&declared(&filled(form, &texts))).is_err(), "{form}");
+        assert!(read(&declared(&filled(&form, &texts))).is_err(), "{form}");
     }
     for form in DERIVED {
         assert_eq!(table(&filled(form, &texts))[3], 3, "{form}");
@@ -139,14 +126,16 @@ fn what_is_put_in_for_a_letter_stays_together() {
     ];
     let marked = texts.map(|(letter, text)| (letter, format!("~{text}~")));
     let marked: Vec<(char, &str)> = marked.iter().map(|(c, text)| (*c, text.as_str())).collect();
-    for (form, instead) in rewritings() {
+    for (form, instead) in rewritings().into_iter().chain(numbered::rewritings()) {
         // sequences beside ## and before [ bind tightly, and their rewritings need no parentheses
         if form.contains("##") || form.contains("[*") || form.contains("[+") || form.contains("b[")
         {
             continue;
         }
-        let alone = filled(instead, &marked).replace("(~", "").replace("~)", "");
-        assert_eq!(table(&alone), table(&filled(instead, &texts)), "{form}");
+        let alone = filled(&instead, &marked)
+            .replace("(~", "")
+            .replace("~)", "");
+        assert_eq!(table(&alone), table(&filled(&instead, &texts)), "{form}");
         if !form.starts_with(char::is_uppercase) && !form.contains(['>', '=', '?']) {
             let negated = |text: &str| table(&format!("not {text}"));
             let whole = format!("({alone})");
@@ -156,7 +145,7 @@ fn what_is_put_in_for_a_letter_stays_together() {
 }
 
 /// The three answers on a word: with no tail, with a ⊤ tail, with a ⊥ tail.
-type Answers = [bool; 3];
+pub type Answers = [bool; 3];
 
 fn answers(level: Level) -> Answers {
     [
@@ -167,7 +156,7 @@ fn answers(level: Level) -> Answers {
 }
 
 /// The answers for a property, from each sample on and after the last: a tail's own answers.
-fn rows(judge: &mut Judge, text: &str, samples: &[u64]) -> Vec<Answers> {
+pub fn rows(judge: &mut Judge, text: &str, samples: &[u64]) -> Vec<Answers> {
     let levels = Suffixes::of(judge, &table(text), samples).unwrap();
     let starts = 0..=samples.len();
     starts.map(|start| answers(levels.level(start))).collect()
@@ -175,18 +164,18 @@ fn rows(judge: &mut Judge, text: &str, samples: &[u64]) -> Vec<Answers> {
 
 /// What the definition of a property operator is worked out from: the answers for P and Q on one
 /// kind of word, from each position on. Positions in a tail are all alike: the last entry.
-struct Word {
-    p: Vec<bool>,
+pub struct Word {
+    pub p: Vec<bool>,
     q: Vec<bool>,
     not_p: bool,
     not_q: bool,
     /// The positions inside the word: with a tail one more, which stands for all of the tail.
-    inside: usize,
-    samples: usize,
+    pub inside: usize,
+    pub samples: usize,
 }
 
 impl Word {
-    fn new(kind: usize, p: &[Answers], q: &[Answers]) -> Word {
+    pub fn new(kind: usize, p: &[Answers], q: &[Answers]) -> Word {
         // the bar of a word swaps the tails
         let bar = [0, 2, 1][kind];
         let samples = p.len() - 1;
@@ -231,7 +220,7 @@ const PROPERTIES: [(&str, Definition); 8] = [
     ("P iff Q", |w| (w.not_p || w.q[0]) && (w.not_q || w.p[0])),
 ];
 
-const SOME_PROPERTIES: [&str; 12] = [
+pub const SOME_PROPERTIES: [&str; 12] = [
     "strong(a)",
     "strong(rose(a) ##1 b)",
     "weak(!fell(b))",
@@ -254,23 +243,14 @@ fn rewritten_properties_mean_what_they_stand_for() {
         let [p, q] = [0; 2].map(|_| random.pick(&SOME_PROPERTIES));
         let [rows_p, rows_q] = [p, q].map(|text| rows(&mut judge, text, &samples));
         for (form, definition) in PROPERTIES {
-            let text = filled(rewriting(form), &[('P', p), ('Q', q)]);
+            let text = filled(&rewriting(form), &[('P', p), ('Q', q)]);
             let given = rows(&mut judge, &text, &samples)[0];
             let wanted = [0, 1, 2].map(|kind| definition(&Word::new(kind, &rows_p, &rows_q)));
             assert_eq!(given, wanted, "{form} as {text} on {samples:?}");
         }
-        for word in ["nexttime", "s_nexttime"] {
-            let form = match word {
-                "nexttime" => "nexttime[2] P",
-                _ => "s_nexttime[2] P",
-            };
-            let twice = filled(rewriting(form), &[('P', p)]);
-            let next = filled(&format!("{word} ({word} P)"), &[('P', p)]);
-            assert_eq!(table(&twice), table(&next));
-        }
         // never P is always not P
-        let never = filled(rewriting("never P"), &[('P', p)]);
-        let always = filled(rewriting("always P"), &[('P', &format!("not ({p})"))]);
+        let never = filled(&rewriting("never P"), &[('P', p)]);
+        let always = filled(&rewriting("always P"), &[('P', &format!("not ({p})"))]);
         assert_eq!(
             rows(&mut judge, &never, &samples),
             rows(&mut judge, &always, &samples)
@@ -278,7 +258,7 @@ fn rewritten_properties_mean_what_they_stand_for() {
     }
 }
 
-const SOME_SEQUENCES: [&str; 10] = [
+pub const SOME_SEQUENCES: [&str; 10] = [
     "a",
     "rose(a)",
     "b ##1 fell(a)[*0]",
@@ -340,7 +320,7 @@ fn rewritten_implications_mean_what_they_stand_for() {
             continue;
         }
         for (form, wanted) in definitions {
-            let text = filled(rewriting(form), &[('R', r), ('P', p)]);
+            let text = filled(&rewriting(form), &[('R', r), ('P', p)]);
             let given = rows(&mut judge, &text, &samples)[0];
             assert_eq!(given, wanted, "{form} as {text} on {samples:?}");
         }
@@ -349,15 +329,15 @@ fn rewritten_implications_mean_what_they_stand_for() {
 
 /// All pairs of a start and an end that match, for definitions by sets.
 #[derive(Clone, PartialEq, Eq, Debug)]
-struct Matches(Vec<u64>);
+pub struct Matches(Vec<u64>);
 
 impl Matches {
-    fn of(judge: &mut Judge, text: &str, samples: &[u64]) -> Matches {
+    pub fn of(judge: &mut Judge, text: &str, samples: &[u64]) -> Matches {
         let ends = ends(judge, text, samples);
         Matches(ends.into_iter().map(|(mask, _)| mask).collect())
     }
 
-    fn made(count: usize, matches: impl Fn(usize, usize) -> bool) -> Matches {
+    pub fn made(count: usize, matches: impl Fn(usize, usize) -> bool) -> Matches {
         let row = |start: usize| {
             let ends = (start..count).filter(|end| matches(start, *end));
             ends.fold(0, |mask, end| mask | 1 << end)
@@ -365,37 +345,37 @@ impl Matches {
         Matches((0..count).map(row).collect())
     }
 
-    fn has(&self, start: usize, end: usize) -> bool {
+    pub fn has(&self, start: usize, end: usize) -> bool {
         self.0.get(start).is_some_and(|mask| mask >> end & 1 == 1)
     }
 
     /// The empty stretch.
-    fn empty(&self) -> Matches {
+    pub fn empty(&self) -> Matches {
         Matches::made(self.0.len(), |start, end| start == end)
     }
 
     /// One and then the other, with so many samples between them.
-    fn then(&self, gap: usize, other: &Matches) -> Matches {
+    pub fn then(&self, gap: usize, other: &Matches) -> Matches {
         Matches::made(self.0.len(), |start, end| {
             (start..=end).any(|middle| self.has(start, middle) && other.has(middle + gap, end))
         })
     }
 
     /// Both share one sample.
-    fn fused(&self, other: &Matches) -> Matches {
+    pub fn fused(&self, other: &Matches) -> Matches {
         Matches::made(self.0.len(), |start, end| {
             (start + 1..=end).any(|middle| self.has(start, middle) && other.has(middle - 1, end))
         })
     }
 
-    fn or(&self, other: &Matches) -> Matches {
+    pub fn or(&self, other: &Matches) -> Matches {
         Matches::made(self.0.len(), |start, end| {
             self.has(start, end) || other.has(start, end)
         })
     }
 
     /// Once or more.
-    fn repeated(&self) -> Matches {
+    pub fn repeated(&self) -> Matches {
         let mut all = self.clone();
         for _ in 0..self.0.len() {
             all = all.or(&all.then(0, self));
@@ -412,35 +392,20 @@ fn rewritten_sequences_mean_what_they_stand_for() {
         let [r_text, s_text] = [0; 2].map(|_| random.pick(&SOME_SEQUENCES));
         let [r, s] = [r_text, s_text].map(|text| Matches::of(&mut judge, text, &samples));
         let (empty, many) = (r.empty(), r.repeated());
-        let from = |least: usize| {
-            let gaps = least..=samples.len() + 1;
-            let later = gaps.map(|gap| r.then(gap, &s));
-            later.reduce(|all, more| all.or(&more)).unwrap()
-        };
-        let (later, later_by_two) = (from(0), from(1));
         let definitions = [
             ("R[+]", many.clone()),
             ("R[*]", empty.or(&many)),
-            ("R[*0:$]", empty.or(&many)),
             ("R[*1]", r.clone()),
             ("R[*0:1]", empty.or(&r)),
             ("R[*0:0]", empty.clone()),
             ("R[*2]", r.then(0, &r)),
             ("R[*1:2]", r.or(&r.then(0, &r))),
-            ("R[*2:$]", r.then(0, &many)),
             ("R ##2 S", r.then(1, &s)),
             ("R ##[0:1] S", r.fused(&s).or(&r.then(0, &s))),
             ("R ##[1:2] S", r.then(0, &s).or(&r.then(1, &s))),
-            ("R ##[1:$] S", later.clone()),
-            ("R ##[2:$] S", later_by_two),
-            (
-                "##1 R",
-                Matches::made(samples.len() + 1, |start, end| r.has(start + 1, end)),
-            ),
-            ("R ##[0:$] S", r.fused(&s).or(&later)),
         ];
         for (form, wanted) in definitions {
-            let text = filled(rewriting(form), &[('R', r_text), ('S', s_text)]);
+            let text = filled(&rewriting(form), &[('R', r_text), ('S', s_text)]);
             assert_eq!(
                 Matches::of(&mut judge, &text, &samples),
                 wanted,
@@ -520,11 +485,13 @@ fn rewritten_repetitions_of_a_boolean_mean_what_they_stand_for() {
         for m in 0..=5 {
             compare(&format!("b[->{m}]"), goto(m, m));
             compare(&format!("b[={m}]"), among(m, m));
+            compare(&numbered::repetition(&format!("->{m}:$")), goto(m, 9));
+            compare(&numbered::repetition(&format!("={m}:$")), among(m, 9));
         }
-        compare(rewriting("b[->1:2]"), goto(1, 2));
-        compare(rewriting("b[->1:$]"), goto(1, 9));
-        compare(rewriting("b[=1:2]"), among(1, 2));
-        compare(rewriting("b[=1:$]"), among(1, 9));
+        for (m, n) in [(0, 0), (0, 3), (1, 2), (1, 3), (2, 2), (2, 4), (3, 4)] {
+            compare(&numbered::repetition(&format!("->{m}:{n}")), goto(m, n));
+            compare(&numbered::repetition(&format!("={m}:{n}")), among(m, n));
+        }
     }
 }
 
@@ -546,8 +513,8 @@ fn rewritten_conditions_mean_what_they_stand_for() {
             ("if (b) P else Q", "(b |-> P) and (weak(b) or Q)"),
         ];
         for (form, source) in both {
-            let [given, wanted] = [rewriting(form), source]
-                .map(|text| format!("{clock}({})", filled(text, &texts)))
+            let [given, wanted] = [rewriting(form), source.to_string()]
+                .map(|text| format!("{clock}({})", filled(&text, &texts)))
                 .map(|text| rows(&mut judge, &text, &samples));
             assert_eq!(given, wanted, "{clock}{form}, {texts:?} on {samples:?}");
         }

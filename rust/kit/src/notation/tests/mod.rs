@@ -5,6 +5,7 @@ mod derived;
 mod edges;
 mod meanings;
 mod mistakes;
+mod numbered;
 mod page;
 mod reading;
 mod round_trip;

@@ -86,15 +86,14 @@ fn the_table_of_levels_has_the_documents_numbers() {
 #[test]
 fn the_page_says_how_other_operators_are_written() {
     for hint in [
-        hints::of("never"),
-        hints::of("$past"),
-        Some(hints::repetition("*0:$")),
-        Some(hints::repetition("->1:2")),
+        hints::of("never").unwrap(),
+        hints::of("$past").unwrap(),
+        hints::repetition("*0:$"),
+        hints::repetition("->1:2"),
+        hints::prefix("nexttime", "2"),
+        hints::prefix("eventually", "1:3"),
     ] {
-        let Some(hints::Hint::Written(form, instead) | hints::Hint::Noted(form, instead, _)) = hint
-        else {
-            panic!("{hint:?}");
-        };
+        let (form, instead) = meanings::written(hint).unwrap();
         let said = format!("`{form}` is `{instead}`");
         assert!(PAGE.contains(&said), "{said}");
     }
@@ -123,5 +122,20 @@ fn what_is_easily_misread_is_read_as_the_page_says() {
         let read = read(&declared(&text)).unwrap();
         let written = write(&read.assertion, &read.names);
         assert!(written.ends_with(&format!("\n{reading}\n")), "{written}");
+    }
+}
+
+/// a at a tick of c, then b at a tick of d, then a tick of c: the right side is asked from the last, where no tick
+/// of d comes any more. SystemVerilog asks it from sample 1 on.
+#[test]
+fn across_two_clocks_it_is_asked_as_the_page_says() {
+    let mut judge = xistomar::Judge::new();
+    for (text, level) in [
+        ("@(c) (a |=> @(d) strong(b))", 1),
+        ("(@(c) a) ##1 (@(1) 1) |-> @(d) strong(b)", 3),
+    ] {
+        assert!(PAGE.contains(&format!("`{text}`")), "{text}");
+        let judged = judge.judge(&table(text), &[5, 10, 4]).unwrap();
+        assert_eq!(judged.level as u8, level, "{text}");
     }
 }
