@@ -88,7 +88,7 @@ const COUNTED: &str =
     "One of these parts is to be shortened. Each is told with its nodes at all its places, all that stands in it \
      included:\n";
 
-/// `, 24 at each of 9 places`; nothing where there is one place.
+/// `  (24 at each of 9 places)`; nothing where there is one place.
 fn at_places(once: u128, places: u128) -> String {
     match places {
         0 | 1 => String::new(),
