@@ -132,7 +132,7 @@ fn more_letters_of_the_tail_change_nothing() {
 
 #[test]
 fn rewriting_keeps_the_meaning() {
-    for seed in 0..20_000 {
+    for seed in 0..10_000 {
         match (random_case(seed), answer(&random_case(seed))) {
             (Case::Judge { table, samples, .. }, Answer::Judge(judged, words)) => {
                 assert_eq!(
