@@ -5,7 +5,8 @@
  *
  * A table is of version 1, 2 or 3, a record of version 1. A version 2 table may also ask whether a signal has risen or fallen since the sample before (operators 5 and
  * 6); the sample before the first is all zero. So a letter is a pair of samples, made of all the samples that are lent, whatever the start. A version 3 table may also
- * have derived operators (23 to 26 and 41 to 47; docs/BLOCKS.md): xistomar_expand makes a version 2 table of it, and every other function reads it as that one.
+ * have derived operators (23 to 26 and 41 to 47; docs/BLOCKS.md): xistomar_expand makes a version 2 table of it, and rewriting, judging and
+ * matching are of that one.
  *
  * A pointer comes with how many bytes or words it lends. It must not be null, even where that number is 0, and what a function writes (`out`, `workspace`) must not
  * overlap what it reads. No function keeps a pointer, allocates or blocks; calls from several threads are independent.

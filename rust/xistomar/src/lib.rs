@@ -9,7 +9,7 @@
 //! signal has risen or fallen since the sample before (operators 5 and 6); the sample before the
 //! first is all zero. So a letter is a pair of samples, made of all the samples that are lent,
 //! whatever the start. A version 3 table may also have derived operators (23 to 26 and 41 to 47):
-//! [`expand`] makes a version 2 table of it, and every other call reads it as that one.
+//! [`expand`] makes a version 2 table of it, and rewriting, judging and matching are of that one.
 //!
 //! Two judges answer the same, each proved by itself: [`judge`], which rewrites the clocks of a table
 //! away and leaves rows in a workspace ([`Judge`] has one of its own), and [`plain_judge`], which reads
