@@ -13,7 +13,7 @@ use Rattle.nodes.specs.declared.Raw.{Raw}
 use Rattle.nodes.specs.declared.Node.{Node}
 use Rattle.nodes.specs.declared.Node.the-variants.{Boolean}
 use Rattle.nodes.specs.declared.BooleanOp.the-variants.{Constant}
-use Rattle.nodes.specs.Operators.{none, operators, lookup, rowOf, nodeOf, fourBytes}
+use Rattle.nodes.specs.Operators.{none, operators, lookup, rowOf, nodeOf, bytesWith}
 use Rattle.nodes.specs.Nodes.{rawAt, sortAt, nodeAt, WellFormed}
 use Rattle.nodes.proofs.Lookup.{of-lookup, same-line, coded-line}
 use Rattle.expansion.specs.Forms.{Form, byte}
@@ -34,7 +34,7 @@ either f g (suc k) = g
 module _ (ν : ℕ → ℕ) (c : ℕ) where
   -- the form of the node with the bytes n, where f is that of x and g that of y, and r its row
   abbrev over : Raw → Form → Form → ℕ → Row → Form
-  over n f g op r = nodeForm (λ _. ν (n .x)) (either (masked (r .x) f) (masked (r .y) g)) c (nodeOf (fourBytes op 0 1 (n .fourth)))
+  over n f g op r = nodeForm (λ _. ν (n .x)) (either (masked (r .x) f) (masked (r .y) g)) c (nodeOf (bytesWith op 0 1 (n .fourth)))
 
   -- antt computes the two for all lines at once
   all-over : (F : ℕ → Form) (n : Raw)
@@ -57,7 +57,7 @@ module _ (ν : ℕ → ℕ) (c : ℕ) where
       let r = rowOf (n .op) in
       let same : (sort v : ℕ) → (¬ (sort ≡ none) → v < k) → masked sort (F v) ≡ masked sort (G v) = λ sort v l. agree sort v (eqb sort none) refl l in
       is-over F n (w .known)
-      ∙ (λ i. nodeForm (λ _. ν (n .x)) (either (same (r .x) (n .x) (w .x .below) i) (same (r .y) (n .y) (w .y .below) i)) c (nodeOf (fourBytes (n .op) 0 1 (n .fourth))))
+      ∙ (λ i. nodeForm (λ _. ν (n .x)) (either (same (r .x) (n .x) (w .x .below) i) (same (r .y) (n .y) (w .y .below) i)) c (nodeOf (bytesWith (n .op) 0 1 (n .fourth))))
       ∙ sym (is-over G n (w .known))
     where
       agree : (sort v : ℕ) (b : Bool) → eqb sort none ≡ b → (¬ (sort ≡ none) → v < k) → cond b (byte 0) (F v) ≡ cond b (byte 0) (G v)

@@ -14,7 +14,7 @@ use Rattle.nodes.specs.declared.Node.the-variants.{Boolean, Sequence, Pr
 use Rattle.nodes.specs.declared.BooleanOp.the-variants.{Constant, Signal, Not, And, Or, Risen, Fallen}
 use Rattle.nodes.specs.declared.SequenceOp.the-variants.{Letter, Then, Fused, Either, Empty, Repeat, Clocked, Derived}
 use Rattle.nodes.specs.declared.PropertyOp.the-variants.{Strong, Weak, Negated, AnyOf, BothOf, Implies, Next, Until, Ticked, Defined}
-use Rattle.nodes.specs.Operators.{none, operators, zeroByte, rangeByte, lookup, rowOf, nodeOf, fourBytes, ranged, bytesOf, booleanBytes, derivedSequenceBytes, derivedPropertyBytes, sequenceBytes, propertyBytes, Written, Decodes}
+use Rattle.nodes.specs.Operators.{none, operators, zeroByte, rangeByte, lookup, rowOf, nodeOf, bytesWith, ranged, bytesOf, booleanBytes, derivedSequenceBytes, derivedPropertyBytes, sequenceBytes, propertyBytes, Written, Decodes}
 use Rattle.nodes.specs.Nodes.{rawAt, sortAt, nodeAt, WellFormed}
 use Rattle.nodes.proofs.Lookup.{of-lookup, same-line, coded-line}
 
@@ -24,7 +24,7 @@ kept kind q = cond (eqb kind zeroByte) 0 (cond (eqb kind rangeByte) (ranged (q %
 
 -- the bytes of a node: its operator, x, y where its row r uses it, and the fourth byte where it has counts
 abbrev meant : ℕ → ℕ → ℕ → ℕ → Row → Raw
-meant x y q op r = fourBytes op x (cond (eqb (r .y) none) 0 y) (kept (r .fourth) q)
+meant x y q op r = bytesWith op x (cond (eqb (r .y) none) 0 y) (kept (r .fourth) q)
 
 -- so are those of a line's node: antt computes the two for all lines at once
 all-meant : (x y q : ℕ) → map (λ e. bytesOf (e .make x y q)) operators ≡ map (λ e. meant x y q (e .code) (e .row)) operators
@@ -57,7 +57,7 @@ coded n w =
     (all-meant (n .x) (n .y) (n .fourth)) (n .op) (w .known)
     ∙ coded-line (meant (n .x) (n .y) (n .fourth)) (bytesOf d) (n .op) (w .known)
     ∙ (λ i.
-    fourBytes (n .op) (n .x) (used (r .y) (n .y) (n .y) (w .unused) refl i) (keeps (r .fourth) (n .fourth) (w .fourth .zero) i))
+    bytesWith (n .op) (n .x) (used (r .y) (n .y) (n .y) (w .unused) refl i) (keeps (r .fourth) (n .fourth) (w .fourth .zero) i))
 
 -- what the table of operators makes of the bytes is decoded from them
 pub decodes : (n : Raw) (r : Node) → r ≡ nodeOf n → Decodes n r

@@ -136,11 +136,11 @@ nodeOf n = lookup (λ e. e .make (n .x) (n .y) (n .fourth)) (Boolean (Constant 0
 
 -- ---- a node as its four bytes, for each case of every enum
 
-abbrev pub fourBytes : ℕ → ℕ → ℕ → ℕ → Raw
-fourBytes op x y q = record { op = op; x = x; y = y; fourth = q }
+abbrev pub bytesWith : ℕ → ℕ → ℕ → ℕ → Raw
+bytesWith op x y q = record { op = op; x = x; y = y; fourth = q }
 
 abbrev pub bytes : ℕ → ℕ → ℕ → Raw
-bytes op x y = fourBytes op x y 0
+bytes op x y = bytesWith op x y 0
 
 unfoldable pub booleanBytes : BooleanOp → Raw
 booleanBytes (Constant x) = bytes 0 x 0
@@ -156,10 +156,10 @@ abbrev pub ranged : ℕ → ℕ → ℕ
 ranged m n = m + 16 * n
 
 unfoldable pub derivedSequenceBytes : DerivedSequence → Raw
-derivedSequenceBytes (Repeated x m n) = fourBytes 23 x 0 (ranged m n)
-derivedSequenceBytes (Delayed x y m n) = fourBytes 24 x y (ranged m n)
-derivedSequenceBytes (Goto x m) = fourBytes 25 x 0 m
-derivedSequenceBytes (Nonconsecutive x m) = fourBytes 26 x 0 m
+derivedSequenceBytes (Repeated x m n) = bytesWith 23 x 0 (ranged m n)
+derivedSequenceBytes (Delayed x y m n) = bytesWith 24 x y (ranged m n)
+derivedSequenceBytes (Goto x m) = bytesWith 25 x 0 m
+derivedSequenceBytes (Nonconsecutive x m) = bytesWith 26 x 0 m
 
 unfoldable pub derivedPropertyBytes : DerivedProperty → Raw
 derivedPropertyBytes (ImpliesNext x y) = bytes 41 x y
