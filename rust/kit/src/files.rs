@@ -1,7 +1,7 @@
-//! Reading and writing whole files.
+//! Reading whole files.
 use crate::failure::Failure;
 use crate::words;
-use std::fs::{self, File};
+use std::fs::File;
 use std::io::{self, Read};
 use std::path::Path;
 
@@ -39,20 +39,6 @@ pub fn read_text(path: &Path) -> Result<String, Failure> {
         let shown = shown(path);
         Failure::Failed(format!("{shown}: not a text: byte {place} is no UTF-8"))
     })
-}
-
-/// Writes a file whole. One of the inputs is never written over.
-pub fn write(path: &Path, bytes: &[u8], inputs: &[&Path]) -> Result<(), Failure> {
-    let same = |input: &&Path| match (fs::canonicalize(input), fs::canonicalize(path)) {
-        (Ok(input), Ok(path)) => input == path,
-        _ => false,
-    };
-    if inputs.iter().any(same) {
-        let words = format!("-o {} would write over an input", shown(path));
-        return Err(Failure::Usage(words));
-    }
-    fs::write(path, bytes)
-        .map_err(|error| Failure::Failed(format!("{}: cannot be written: {error}", shown(path))))
 }
 
 /// The message for a file that cannot be read.

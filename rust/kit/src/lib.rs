@@ -20,6 +20,7 @@
 
 mod assertion;
 mod batch;
+mod beside;
 mod commands;
 mod console;
 mod engine;
@@ -29,9 +30,12 @@ mod names;
 mod notation;
 mod once;
 mod options;
+mod origin;
+mod output;
 mod picture;
 mod refusals;
 mod required;
+mod sha256;
 mod sizes;
 mod source;
 #[cfg(test)]
@@ -39,6 +43,9 @@ mod testing;
 mod vcd;
 mod verdict;
 mod words;
+
+/// The version of the kit.
+const VERSION: &str = env!("CARGO_PKG_VERSION");
 
 pub use commands::run;
 pub use console::Console;

@@ -136,10 +136,7 @@ fn instead(assertion: &Assertion, nodes: &[usize], names: &Names) -> Result<Stri
     let many =
         || format!("but then it has more than {MOST_NODES} nodes, and {MOST_NODES} is the most");
     let always = assertion.asked_always(nodes).ok_or_else(many)?;
-    let source = Source {
-        table: always.table(),
-        names: names.clone(),
-    };
+    let source = Source::made(always.table(), names.clone());
     if let Some(words) = refusals::too_large(&source) {
         return Err(format!("but then {words}"));
     }

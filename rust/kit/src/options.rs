@@ -22,6 +22,8 @@ pub struct Options {
     flags: Vec<&'static str>,
     /// Whether a file stands right after an option's value: it may be the rest of that value.
     after_value: bool,
+    /// All words, as they were given.
+    words: Vec<String>,
 }
 
 /// The files that a message names, at most.
@@ -31,7 +33,9 @@ impl Options {
     /// Reads the words. `--name value` and `--name=value` are the same; after `--` every word is a
     /// file. An option that stands twice is a mistake, since one of the two would be lost.
     pub fn read(words: Vec<OsString>, spec: &Spec) -> Result<Options, Failure> {
+        let shown = |word: &OsString| word.to_string_lossy().into_owned();
         let mut options = Options {
+            words: words.iter().map(shown).collect(),
             files: Vec::new(),
             values: Vec::new(),
             flags: Vec::new(),
@@ -132,10 +136,9 @@ impl Options {
             .transpose()
     }
 
-    /// The value of `-o`, which must be given.
-    pub fn output(&self) -> Result<PathBuf, Failure> {
-        let missing = || Failure::Usage("-o FILE must say where the result goes".to_string());
-        self.value("-o").map(PathBuf::from).ok_or_else(missing)
+    /// All words, as they were given.
+    pub fn words(&self) -> &[String] {
+        &self.words
     }
 
     /// Whether a flag is given.

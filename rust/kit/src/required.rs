@@ -3,6 +3,7 @@ use crate::failure::Failure;
 use crate::options::Options;
 use crate::verdict::Judged;
 use crate::words;
+use xistomar::Level;
 
 /// What the caller requires of a record.
 #[derive(Clone, Copy, Debug, Default, PartialEq, Eq)]
@@ -56,6 +57,12 @@ impl Required {
         self.level_reached(record)
             && (record.judgement.tested || !self.tested)
             && (record.asked == Some(true) || !self.asked)
+    }
+
+    /// Whether a record is broken and the status does not say it, since no level is required.
+    pub fn unsaid(self, record: Judged) -> bool {
+        let broken = record.judgement.level == Level::Broken;
+        broken && self.level.is_none() && self.reached(record)
     }
 
     fn level_reached(self, record: Judged) -> bool {

@@ -71,8 +71,10 @@ impl Found {
     /// Takes a file of a folder, or passes it over. What would be waited for, such as a pipe, is not
     /// opened.
     fn entry(&mut self, path: PathBuf, kind: FileType) {
-        if !path.as_os_str().as_encoded_bytes().ends_with(b".svw") {
-            self.others += 1;
+        let name = path.as_os_str().as_encoded_bytes();
+        if !name.ends_with(b".svw") {
+            // what stands beside a record is read with it
+            self.others += usize::from(!name.ends_with(b".svw.json"));
             return;
         }
         let kind = match kind.is_symlink() {

@@ -1,7 +1,9 @@
 //! Judging many records at once.
 use super::find::Place;
+use crate::beside::{self, Beside, Recorded};
 use crate::engine::{Difference, Engines, Unjudged};
 use crate::files;
+use crate::names::Names;
 use crate::verdict::{Judged, Reaching};
 use std::fs::File;
 use std::io::Read;
@@ -33,6 +35,8 @@ pub enum Answer {
     Differ(Difference),
     /// The file cannot be read, and why.
     Unreadable(String),
+    /// What stands beside the record speaks of other signals than the table, or of other bytes, and how.
+    Mismatched(String),
 }
 
 /// What became of all records.
@@ -42,6 +46,20 @@ pub struct Run<'a> {
     pub answers: Vec<Answer>,
     /// The record that took the longest to judge, reading not counted.
     pub slowest: Option<(Duration, &'a Path)>,
+    /// How many were judged whose names are not known.
+    pub unnamed: usize,
+}
+
+/// What all records are judged by.
+pub struct By<'a> {
+    /// The assertion.
+    pub reaching: &'a Reaching,
+    /// The engines, which do not refuse it.
+    pub engines: &'a Engines,
+    /// The names of its signals; none of a table that is no text.
+    pub names: &'a Names,
+    /// The signals that it asks about.
+    pub asked: Vec<u8>,
 }
 
 /// Places that are not yet taken by a thread, with room for their answers.
@@ -49,8 +67,8 @@ type Parts<'a, 'b> = Zip<Chunks<'a, Place>, ChunksMut<'b, Answer>>;
 
 /// What the threads share.
 struct Shared<'a, 'b> {
-    reaching: &'a Reaching,
-    engines: &'a Engines,
+    by: &'a By<'a>,
+    unnamed: AtomicUsize,
     parts: Mutex<Parts<'a, 'b>>,
     done: AtomicUsize,
     slowest: Mutex<Option<(Duration, &'a Path)>>,
@@ -58,16 +76,12 @@ struct Shared<'a, 'b> {
 
 /// Judges the record at each place by a table that its engines do not refuse, with as many threads as run at
 /// once here. While they work, `watch` is told every tenth of a second how many are done.
-pub fn judge_all<'a>(
-    (reaching, engines): (&'a Reaching, &'a Engines),
-    places: &'a [Place],
-    watch: &mut dyn FnMut(usize),
-) -> Run<'a> {
+pub fn judge_all<'a>(by: &'a By<'a>, places: &'a [Place], watch: &mut dyn FnMut(usize)) -> Run<'a> {
     let mut answers = Vec::new();
     answers.resize_with(places.len(), || Answer::Unreadable(String::new()));
     let shared = Shared {
-        reaching,
-        engines,
+        by,
+        unnamed: AtomicUsize::new(0),
         parts: Mutex::new(places.chunks(PART).zip(answers.chunks_mut(PART))),
         done: AtomicUsize::new(0),
         slowest: Mutex::new(None),
@@ -76,7 +90,12 @@ pub fn judge_all<'a>(
     run_threads(&shared, most.min(places.len().div_ceil(PART)), watch);
     let slowest = shared.slowest.into_inner();
     let slowest = slowest.unwrap_or_else(PoisonError::into_inner);
-    Run { answers, slowest }
+    let unnamed = shared.unnamed.into_inner();
+    Run {
+        answers,
+        slowest,
+        unnamed,
+    }
 }
 
 /// Runs the threads to their end. Where none can be started the work is done here.
@@ -115,7 +134,7 @@ impl<'s, 'a, 'b> Worker<'s, 'a, 'b> {
     fn new(shared: &'s Shared<'a, 'b>) -> Worker<'s, 'a, 'b> {
         Worker {
             shared,
-            engines: shared.engines.clone(),
+            engines: shared.by.engines.clone(),
             bytes: Vec::with_capacity(2 * files::MOST as usize),
             samples: [0; LONGEST],
             slowest: None,
@@ -157,15 +176,38 @@ impl<'s, 'a, 'b> Worker<'s, 'a, 'b> {
             Ok(judged) => {
                 let time = (begun.elapsed(), place.path.as_path());
                 self.slowest = self.slowest.max(Some(time));
-                Answer::Judged(judged)
+                match self.mismatch(&place.path) {
+                    None => Answer::Judged(judged),
+                    Some(why) => Answer::Mismatched(why),
+                }
             }
         }
+    }
+
+    /// Why the file beside a record does not fit it, or the table, if it does not.
+    fn mismatch(&self, record: &Path) -> Option<String> {
+        let recorded: Recorded = match beside::known(record, &self.bytes) {
+            Err(failure) => return Some(failure.words().to_string()),
+            Ok(None) => {
+                self.shared.unnamed.fetch_add(1, Ordering::Relaxed);
+                return None;
+            }
+            Ok(Some(recorded)) => recorded,
+        };
+        let By { names, asked, .. } = self.shared.by;
+        let unlike = beside::unlike(names, asked, &recorded.names());
+        let unlike = unlike.iter().map(|it| {
+            let words = it.words("the assertion", "the record");
+            format!("signal {} is {words}", it.number())
+        });
+        let unlike = unlike.collect::<Vec<_>>().join("; ");
+        (!unlike.is_empty()).then(|| format!("{}: {unlike}", files::shown(record)))
     }
 
     /// Judges the record that was read.
     fn judge(&mut self) -> Result<Judged, Unjudged> {
         let count = xistomar::read(&self.bytes, &mut self.samples)?;
         let samples = self.samples.get(..count).unwrap_or_default();
-        self.shared.reaching.judged(&mut self.engines, samples)
+        self.shared.by.reaching.judged(&mut self.engines, samples)
     }
 }

@@ -7,6 +7,6 @@ mod report;
 mod tests;
 
 pub use find::{find, Found};
-pub use judging::{judge_all, Answer, Run};
+pub use judging::{judge_all, Answer, By, Run};
 pub use progress::Progress;
 pub use report::{list, names, Report};

@@ -30,6 +30,11 @@ impl Report<'_> {
         rows.extend(self.refused());
         let unreadable = self.count(|answer| matches!(answer, Answer::Unreadable(_)));
         rows.push(row("unreadable", unreadable, ""));
+        let mismatched = self.count(|answer| matches!(answer, Answer::Mismatched(_)));
+        if mismatched > 0 {
+            let words = "the file beside them speaks of other signals, or of other bytes";
+            rows.push(row("mismatched", mismatched, words));
+        }
         let differ = self.count(|answer| matches!(answer, Answer::Differ(_)));
         if differ > 0 {
             rows.push(row("engines differ", differ, "a defect of Xistomar"));
@@ -99,6 +104,11 @@ impl Report<'_> {
         let words = format!("of {judged} judged: no strong and no weak was reached");
         rows.push(row("not tested", untested, &words));
         rows.push(self.never_asked(judged));
+        if self.run.unnamed > 0 {
+            let words =
+                format!("of {judged} judged: no .svw.json beside them says what their signals are");
+            rows.push(row("names not known", self.run.unnamed, &words));
+        }
         if self.required.asks() {
             let reached = self.judged(|it| self.required.reached(*it));
             let words = format!("of {all}: {}", self.required.words());
@@ -155,47 +165,70 @@ pub fn list<'a>(found: &'a Found, run: &'a Run) -> impl Iterator<Item = String> 
     pairs.map(|(place, answer)| {
         let name = shown(&place.path);
         match answer {
-            Answer::Judged(Judged { judgement, asked }) => match asked {
-                Some(false) => format!("{name}: {judgement}, a |-> never asked\n"),
-                _ => format!("{name}: {judgement}\n"),
-            },
+            Answer::Judged(judged) => {
+                format!("{name}: {}{}\n", judged.judgement, unasked(judged))
+            }
             Answer::Differ(difference) => format!("{name}: {}\n", difference.line()),
             Answer::Refused(refusal) => format!("{name}: {}\n", refusals::line(*refusal)),
             Answer::Unreadable(why) => format!("{name}: unreadable: {why}\n"),
+            Answer::Mismatched(why) => format!("{name}: mismatched: {why}\n"),
         }
     })
 }
 
-/// The broken records that are named, at most. The refused and the unreadable are all named.
+/// The broken records that are named where that was not required of them, at most. All others are named.
 const NAMED: usize = 20;
 
-/// A line for each of the first broken records, for each that is refused, for each that cannot be read,
-/// and for each on which the engines differ.
-pub fn names<'a>(found: &'a Found, run: &'a Run) -> impl Iterator<Item = String> + 'a {
+/// A line for each record that misses what is required, for each of the first others that are broken, for
+/// each that is refused, cannot be read or does not fit, and for each on which the engines differ.
+pub fn names<'a>(
+    found: &'a Found,
+    run: &'a Run,
+    required: Required,
+) -> impl Iterator<Item = String> + 'a {
     let pairs = || found.places.iter().zip(&run.answers);
-    let broken = || {
-        let level = |answer: &Answer| match answer {
-            Answer::Judged(judged) => Some(judged.judgement.level),
+    let judged = move || {
+        pairs().filter_map(|(place, answer)| match answer {
+            Answer::Judged(judged) => Some((place, judged)),
             _ => None,
-        };
-        pairs().filter(move |(_, answer)| level(answer) == Some(Level::Broken))
+        })
+    };
+    let missed = judged().filter(move |(_, judged)| !required.reached(**judged));
+    let missed = missed.map(|(place, judged)| {
+        let (name, line) = (shown(&place.path), judged.judgement);
+        let unasked = unasked(judged);
+        format!("missed  {name}: {line}{unasked}\n")
+    });
+    let broken = move || {
+        let broken = |judged: &Judged| judged.judgement.level == Level::Broken;
+        judged().filter(move |(_, judged)| broken(judged) && required.reached(**judged))
     };
     let more = broken().count().saturating_sub(NAMED);
     let more = (more > 0).then(|| format!("broken  and {more} more, which --list names\n"));
     let broken = broken().take(NAMED);
     let broken = broken.map(|(place, _)| format!("broken  {}\n", shown(&place.path)));
-    let refused = pairs().filter_map(|(place, answer)| match answer {
-        Answer::Refused(it) => Some(format!("refused {}  {}\n", it.number(), shown(&place.path))),
-        _ => None,
-    });
-    let unreadable = pairs().filter_map(|(place, answer)| match answer {
-        Answer::Unreadable(why) => Some(format!("unreadable  {}: {why}\n", shown(&place.path))),
-        _ => None,
-    });
-    let differ = pairs().filter_map(|(place, answer)| match answer {
-        Answer::Differ(it) => Some(format!("{}  {}\n", it.line(), shown(&place.path))),
-        _ => None,
-    });
-    let named = broken.chain(more).chain(refused).chain(unreadable);
-    named.chain(differ)
+    let others = pairs().filter_map(|(place, answer)| other(&shown(&place.path), answer));
+    let mut others: Vec<(u8, String)> = others.collect();
+    others.sort_by_key(|(rank, _)| *rank);
+    let named = missed.chain(broken).chain(more);
+    named.chain(others.into_iter().map(|(_, line)| line))
+}
+
+/// The line for a record that was not judged, and its place among such lines.
+fn other(name: &str, answer: &Answer) -> Option<(u8, String)> {
+    Some(match answer {
+        Answer::Judged(_) => return None,
+        Answer::Refused(it) => (0, format!("refused {}  {name}\n", it.number())),
+        Answer::Unreadable(why) => (1, format!("unreadable  {name}: {why}\n")),
+        Answer::Mismatched(why) => (2, format!("mismatched  {why}\n")),
+        Answer::Differ(it) => (3, format!("{}  {name}\n", it.line())),
+    })
+}
+
+/// That some `|->` was never asked, where it is told.
+fn unasked(judged: &Judged) -> &'static str {
+    match judged.asked {
+        Some(false) => ", a |-> never asked",
+        _ => "",
+    }
 }

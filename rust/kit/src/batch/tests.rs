@@ -45,6 +45,7 @@ fn a_difference_is_counted_listed_and_named() {
     let run = Run {
         answers,
         slowest: None,
+        unnamed: 0,
     };
     let report = Report {
         found: &found,
@@ -71,6 +72,6 @@ fn a_difference_is_counted_listed_and_named() {
             format!("b.svw: {line}\n")
         ]
     );
-    let named: Vec<String> = names(&found, &run).collect();
+    let named: Vec<String> = names(&found, &run, Required::default()).collect();
     assert_eq!(named, [format!("{line}  b.svw\n")]);
 }

@@ -1,12 +1,13 @@
 //! `kit batch`: the verdict on many records.
 use super::Command;
-use crate::batch::{self, Answer, Progress, Report, Run};
+use crate::batch::{self, Answer, By, Progress, Report, Run};
 use crate::console::Console;
 use crate::engine::{self, Engine, Engines, Unjudged};
 use crate::failure::{Failure, Outcome, BELOW, DONE, REFUSED};
 use crate::files::shown;
 use crate::once;
 use crate::options::{Options, Spec};
+use crate::origin;
 use crate::refusals;
 use crate::required::Required;
 use crate::source;
@@ -42,7 +43,13 @@ fn run(options: &Options, console: &mut Console) -> Outcome {
     }
     let mut progress = Progress::begin(console, found.places.len());
     let mut watch = |done| progress.draw(done);
-    let run = batch::judge_all((&reaching, &engines), &found.places, &mut watch);
+    let by = By {
+        reaching: &reaching,
+        engines: &engines,
+        names: &source.names,
+        asked: origin::asked(&source.table),
+    };
+    let run = batch::judge_all(&by, &found.places, &mut watch);
     progress.erase();
     let whole = begun.elapsed();
     if options.flag("--list") {
@@ -64,10 +71,13 @@ fn run(options: &Options, console: &mut Console) -> Outcome {
     if !alone.is_empty() || !note.is_empty() {
         console.say(&format!("\n{alone}{note}"))?;
     }
-    let mut names = batch::names(&found, &run).peekable();
+    let mut names = batch::names(&found, &run, required).peekable();
     if names.peek().is_some() {
         console.say("\n")?;
         console.say_all(names)?;
+    }
+    if let Some(words) = unsaid(&run, required) {
+        console.tell(&words);
     }
     status(&run, required)
 }
@@ -107,8 +117,21 @@ fn no_record(given: &[PathBuf], others: usize) -> Failure {
     Failure::Failed(words)
 }
 
-/// A difference between the engines weighs most, then a file that cannot be read, then a refused one, and then
-/// a low level.
+/// That records are broken where no level was required, so that the status does not say it.
+fn unsaid(run: &Run, required: Required) -> Option<String> {
+    let unsaid = |answer: &&Answer| matches!(answer, Answer::Judged(it) if required.unsaid(*it));
+    let (broken, all) = (run.answers.iter().filter(unsaid).count(), run.answers.len());
+    let are = if broken == 1 { "is" } else { "are" };
+    (broken > 0).then(|| {
+        format!(
+            "kit batch: {broken} of {all} {are} broken, and no level was required, so the status does not say so: \
+             --require 1 makes it 1\n"
+        )
+    })
+}
+
+/// A difference between the engines weighs most, then a file that cannot be read or does not fit, then a refused
+/// one, and then a low level.
 fn status(run: &Run, required: Required) -> Outcome {
     let count =
         |wanted: &dyn Fn(&Answer) -> bool| run.answers.iter().filter(|it| wanted(it)).count();
@@ -122,10 +145,17 @@ fn status(run: &Run, required: Required) -> Outcome {
         return Err(Failure::Differ(words));
     }
     let unreadable = count(&|answer| matches!(answer, Answer::Unreadable(_)));
+    let mismatched = count(&|answer| matches!(answer, Answer::Mismatched(_)));
+    let all = run.answers.len();
     if unreadable > 0 {
-        let all = run.answers.len();
         let words =
             format!("{unreadable} of {all} could not be read: the report ends with their names");
+        Err(Failure::Failed(words))
+    } else if mismatched > 0 {
+        let words = format!(
+            "{mismatched} of {all} were not judged, since the file beside them speaks of other signals or of other \
+             bytes: the report ends with their names"
+        );
         Err(Failure::Failed(words))
     } else if count(&|answer| matches!(answer, Answer::Refused(_))) > 0 {
         Ok(REFUSED)
@@ -199,6 +229,7 @@ mod tests {
         let run = Run {
             answers,
             slowest: None,
+            unnamed: 0,
         };
         let failure = status(&run, Required::default()).unwrap_err();
         assert_eq!(failure.status(), 5);

@@ -1,10 +1,11 @@
 //! `kit judge`: the verdict in words.
 use super::Command;
 use crate::console::Console;
-use crate::engine::Engine;
-use crate::failure::{Outcome, BELOW, DONE, REFUSED};
+use crate::engine::{Engine, Engines};
+use crate::failure::{Failure, Outcome, BELOW, DONE, REFUSED};
 use crate::files;
 use crate::options::{Options, Spec};
+use crate::origin::{Origin, Read};
 use crate::refusals;
 use crate::required::Required;
 use crate::source::{self, Source};
@@ -28,42 +29,74 @@ fn run(options: &Options, console: &mut Console) -> Outcome {
     let engine = Engine::of(options)?;
     let source = source::table(table, options.value("--names").map(Path::new))?;
     let bytes = files::read(record)?;
-    let judged = match judged(engine, required, &source, &bytes) {
-        Err(Stopped::Differ(difference)) => return Err(difference.failure(&[table, record])),
-        Err(Stopped::Refused(refused)) => Err(refused),
-        Ok(account) => Ok(account),
+    let ready = verdict::ready(engine, &source.table, &bytes);
+    let judged = ready.map(|(engines, samples)| -> Result<_, Failure> {
+        let origin = Origin::of((table, &source), (record, &bytes))?;
+        let account = account(engines, required, &source, &origin, &samples);
+        Ok(account.map(|account| (account, origin)))
+    });
+    let refused = match judged {
+        Ok(judged) => match judged? {
+            Ok((account, origin)) => return judged_record(&account, &origin, options, console),
+            Err(stopped) => stopped,
+        },
+        Err(stopped) => stopped,
     };
-    let json = options.flag("--json");
-    console.say(&match &judged {
-        Ok(account) if json => format!("{}\n", verdict::object(account, required)),
-        Ok(account) => verdict::words(account, required, options.flag("--once")),
-        Err(refused) if json => {
-            format!("{}\n", verdict::refusal_object(*refused, engine, required))
+    let refused = match refused {
+        Stopped::Differ(difference) => return Err(difference.failure(&[table, record])),
+        Stopped::Refused(refused) => refused,
+    };
+    console.say(&match refused {
+        _ if options.flag("--json") => {
+            let files = [&source.read, &Read::of(record, &bytes)];
+            verdict::refusal_object(refused, engine, required, files).line()
         }
-        Err(refused @ Refused::Table(refusal)) => {
-            let more = refusals::more(&source, *refusal);
-            verdict::refusal_words(*refused, table, &source.table, &more)
+        Refused::Table(refusal) => {
+            let more = refusals::more(&source, refusal);
+            verdict::refusal_words(refused, table, &source.table, &more)
         }
-        Err(refused @ Refused::Record(_)) => verdict::refusal_words(*refused, record, &bytes, ""),
+        Refused::Record(_) => verdict::refusal_words(refused, record, &bytes, ""),
     })?;
-    Ok(match judged {
-        Ok(account) if required.reached(account.judged()) => DONE,
-        Ok(_) => BELOW,
-        Err(_) => REFUSED,
+    Ok(REFUSED)
+}
+
+/// Says the verdict on a record that was judged.
+fn judged_record(
+    account: &Account,
+    origin: &Origin,
+    options: &Options,
+    console: &mut Console,
+) -> Outcome {
+    let required = Required::of(options)?;
+    console.say(&match options.flag("--json") {
+        true => verdict::object(account, required, origin).line(),
+        false => verdict::words(account, required, options.flag("--once")) + &origin.words(),
+    })?;
+    if required.unsaid(account.judged()) {
+        let record = &origin.record.file;
+        console.tell(&format!(
+            "kit judge: {record} is broken, and no level was required, so the status does not say so: \
+             --require 1 makes it 1\n"
+        ));
+    }
+    Ok(match required.reached(account.judged()) {
+        true => DONE,
+        false => BELOW,
     })
 }
 
 /// Judges a record. Where the plain engine judged alone because the fast one refuses, and what is required
 /// is read off the fast one's rows, that refusal is the answer.
-fn judged(
-    engine: Engine,
+fn account(
+    mut engines: Engines,
     required: Required,
     source: &Source,
-    record: &[u8],
+    origin: &Origin,
+    samples: &[u64],
 ) -> Result<Account, Stopped> {
-    let (mut engines, samples) = verdict::ready(engine, &source.table, record)?;
-    let account = verdict::account(&mut engines, &source.table, &source.names, &samples);
-    let account = account.map_err(Stopped::by_table)?;
+    let account = verdict::account(&mut engines, &source.table, &origin.names, samples);
+    let mut account = account.map_err(Stopped::by_table)?;
+    account.times = origin.times().to_vec();
     match (account.past, account.judged().asked) {
         (Some(refusal), None) if required.asked => Err(Stopped::Refused(Refused::Table(refusal))),
         _ => Ok(account),

@@ -38,6 +38,7 @@ pub fn run(words: Vec<OsString>, console: &mut Console) -> u8 {
     let rest: Vec<OsString> = words.collect();
     let (name, outcome) = match first.as_deref() {
         None | Some("--help" | "-h") => (None, console.say(HELP).map(|()| DONE)),
+        Some("--version" | "-V") => (None, console.say(&version()).map(|()| DONE)),
         Some("help") => (None, help(&rest, console)),
         Some(name) => match COMMANDS.iter().find(|command| command.name == name) {
             Some(command) => (Some(command.name), run_command(command, rest, console)),
@@ -48,6 +49,11 @@ pub fn run(words: Vec<OsString>, console: &mut Console) -> u8 {
         console.tell(&message(name, &failure));
         failure.status()
     })
+}
+
+/// The line of `kit --version`.
+fn version() -> String {
+    format!("kit {}\n", crate::VERSION)
 }
 
 fn run_command(command: &Command, words: Vec<OsString>, console: &mut Console) -> Outcome {
@@ -101,7 +107,8 @@ The bench kit: from a waveform to a verdict that a person can read.
   kit picture TABLE RECORD -o FILE.svg    the verdict as a picture
   kit batch TABLE DIR|FILES..             the verdict on many records
 
-kit COMMAND --help says more. A TABLE is a .svt file, or a text whose name ends in .txt.
+kit COMMAND --help says more, and kit --version which version it is. A TABLE is a .svt file, or a
+text whose name ends in .txt.
 
 The levels: 3 held whatever comes next, 2 held as the record stands, 1 nothing broken and still
 waiting, 0 broken. A 3 or a 0 is closed: a longer record never overturns it.

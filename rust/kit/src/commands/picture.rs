@@ -5,6 +5,8 @@ use crate::engine::Engine;
 use crate::failure::{Outcome, DONE};
 use crate::files;
 use crate::options::{Options, Spec};
+use crate::origin::Origin;
+use crate::output::{self, Kind, Output, FORCE};
 use crate::picture::{self, Scene};
 use crate::refusals;
 use crate::source;
@@ -18,16 +20,19 @@ pub const COMMAND: Command = Command {
     help: HELP,
     spec: Spec {
         values: &["-o", "--names", "--engine"],
-        flags: &[],
+        flags: &[FORCE],
     },
     run,
 };
 
 fn run(options: &Options, console: &mut Console) -> Outcome {
     let [table, record] = options.files(["TABLE", "RECORD"])?;
-    let output = options.output()?;
+    let output = Output::of(options, &OUTPUT)?;
     let engine = Engine::of(options)?;
     let names = options.value("--names").map(Path::new);
+    let inputs = [Some(table.as_path()), Some(record), names];
+    let inputs: Vec<&Path> = inputs.into_iter().flatten().collect();
+    output.may_write(&OUTPUT, &inputs)?;
     let source = source::table(table, names)?;
     let bytes = files::read(record)?;
     let stopped = |stopped: Stopped| match stopped {
@@ -38,23 +43,40 @@ fn run(options: &Options, console: &mut Console) -> Outcome {
         Stopped::Differ(difference) => difference.failure(&[table, record]),
     };
     let (mut engines, samples) = verdict::ready(engine, &source.table, &bytes).map_err(stopped)?;
-    let scene = Scene::of(&mut engines, &source.table, &source.names, &samples)
+    let origin = Origin::of((table, &source), (record, &bytes))?;
+    let scene = Scene::of(&mut engines, &source.table, &origin.names, &samples)
         .map_err(|unjudged| stopped(Stopped::by_table(unjudged)))?;
-    let inputs = [Some(table.as_path()), Some(record), names];
-    let inputs: Vec<&Path> = inputs.into_iter().flatten().collect();
-    files::write(&output, picture::draw(&scene).as_bytes(), &inputs)?;
-    let (shown, line) = (files::shown(&output), scene.verdict.judgement);
+    output.write(&picture::draw(&scene), console)?;
+    let (shown, line) = (output.shown(), scene.verdict.judgement);
     let count = words::count(samples.len(), "sample");
     let alone = match engines.engine() {
         Engine::Plain => ", judged by the plain engine alone",
         _ => "",
     };
-    console.say(&format!("{shown}: {line}, {count}{alone}\n"))?;
+    let said = format!("{shown}: {line}, {count}{alone}\n");
+    match output {
+        Output::Standard => console.tell(&said),
+        Output::File { .. } => console.say(&said)?,
+    }
     Ok(DONE)
 }
 
+/// What the command writes: a picture is its own by its second line.
+const OUTPUT: Kind = Kind {
+    command: "picture",
+    what: "a picture",
+    ending: ".svg",
+    text: true,
+    own: |path| {
+        let beginning = output::standing(path, files::MOST);
+        let second = beginning.split(|byte| *byte == b'\n').nth(1);
+        second == Some(picture::MARK.as_bytes())
+    },
+    beside: None,
+};
+
 const HELP: &str = "\
-kit picture TABLE RECORD [--names FILE.txt] [--engine both|fast|plain] -o FILE.svg
+kit picture TABLE RECORD [--names FILE.txt] [--engine both|fast|plain] -o FILE.svg [--force]
 
 Draws the verdict on a record as an SVG picture, and prints its level in one line. Any browser opens
 the picture; it has no scripts and needs no other file.
@@ -81,7 +103,10 @@ flag the level is open at the end of the record.
   --engine WHICH    both, which is the default, fast or plain, as for kit judge. Where the plain
                     engine judges alone there are no rows for |-> and no decisive part, and the
                     picture and the line say so
-  -o FILE.svg       where the picture goes
+  -o FILE.svg       where the picture goes; - is standard output, and then the line goes to standard
+                    error. A file that is there already is written over only where kit picture wrote
+                    it
+  --force           -o may have any ending, and writes over any file but an input
 
 Example:
 

@@ -1,13 +1,14 @@
 //! `kit record`: a waveform to a record.
 mod report;
 mod request;
+mod written;
 
 use super::Command;
+use crate::beside::Identity;
 use crate::console::Console;
-use crate::failure::{Failure, Outcome, DONE};
-use crate::files;
+use crate::failure::{Outcome, DONE};
 use crate::options::{Options, Spec};
-use crate::refusals;
+use crate::output::{self, write_whole, FORCE};
 use crate::vcd::{self, Changes};
 use report::{report, times};
 use request::Request;
@@ -28,7 +29,7 @@ pub const COMMAND: Command = Command {
             "--names",
             "-o",
         ],
-        flags: &["--settled", "--times"],
+        flags: &["--settled", "--times", FORCE],
     },
     run,
 };
@@ -36,7 +37,7 @@ pub const COMMAND: Command = Command {
 const HELP: &str = "\
 kit record FILE.vcd --signals NAME=PATH,.. [--on \"posedge CLOCK\" | --every TIME]
            [--from TIME] [--count N] [--x 0|1] [--settled] [--names FILE.txt] [--times]
-           -o FILE.svw
+           -o FILE.svw [--force]
 
 Takes samples of the chosen signals from a waveform (VCD) and writes them as a record, which holds
 at most 63. kit signals FILE.vcd lists what can be chosen. Without --on and --every there is a
@@ -66,7 +67,12 @@ stand in the file before its first time are of time 0.
   --x 0, --x 1            Reads every unknown value (x, z, U, .., not dumped) as 0 or as 1, the
                           clock's too. Without it, an unknown value in a sample is an error.
   --times                 Adds a line for each sample with its time, to find it in a wave viewer.
-  -o FILE.svw             The record.
+  -o FILE.svw             The record. Beside it FILE.svw.json is written, which says what its
+                          signals are called and where they came from, the time of each sample,
+                          and the SHA-256 of the record and of the waveform. Commands that read the
+                          record look for it. A record that is there already is written over only
+                          where kit record wrote it and it was not changed since.
+  --force                 -o may have any ending, and writes over any file but an input.
 
 Example:
 
@@ -83,33 +89,20 @@ read, written or understood, or does not have the samples. Only with status 0 is
 
 fn run(options: &Options, console: &mut Console) -> Outcome {
     let request = Request::of(options)?;
-    let waveform = &request.waveform;
+    let (waveform, output) = (&request.waveform, &request.output);
+    let inputs = [waveform].into_iter().chain(&request.names);
+    let inputs: Vec<&Path> = inputs.map(PathBuf::as_path).collect();
+    output::may_write(output, request.force, &written::OUTPUT, &inputs)?;
     let (header, tokens) = vcd::open(waveform)?;
     let plan = request.plan(options, &header)?;
     let taken = vcd::take(&plan, &mut Changes::of(&header, tokens));
     let taken = taken.map_err(|wrong| wrong.of(waveform))?;
-    let inputs = [waveform].into_iter().chain(&request.names);
-    let inputs: Vec<&Path> = inputs.map(PathBuf::as_path).collect();
-    let output = &request.output;
-    files::write(output, &record(output, &taken.samples)?, &inputs)?;
+    let digest = Identity::of(waveform, &std::fs::read(waveform).unwrap_or_default());
+    let files = written::files(output, (&plan, &taken), &digest, options.words())?;
+    write_whole(&files)?;
     console.say(&report(output, &plan, &taken))?;
     if options.flag("--times") {
         console.say(&times(&plan, &taken))?;
     }
     Ok(DONE)
-}
-
-/// The bytes of a record, which the proved reading gives back as these samples.
-fn record(path: &Path, samples: &[u64]) -> Result<Vec<u8>, Failure> {
-    let count = u8::try_from(samples.len()).unwrap_or(u8::MAX);
-    let mut record = vec![b'S', b'V', b'W', 1, 0, count];
-    record.extend(samples.iter().flat_map(|sample| sample.to_le_bytes()));
-    match xistomar::samples(&record) {
-        Ok(read) if read == samples => Ok(record),
-        Ok(_) => {
-            let words = "the record reads back as other samples";
-            Err(Failure::Failed(format!("{}: {words}", files::shown(path))))
-        }
-        Err(refusal) => Err(refusals::failure(path, refusal)),
-    }
 }

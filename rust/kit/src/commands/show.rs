@@ -35,16 +35,18 @@ again: kit table makes a table of it that has the same verdict on every record. 
 nothing uses are left out, and equal ones become one. A comment tells where a table has a later
 version than its operators need, since kit table then writes an earlier one.
 
-Of a record it writes a line for each sample: its number, the 64 signals as one number, of which
-bit 3 is signal 3, and the names of the signals that are 1, or - where none is.
+Of a record it writes a line for each sample: its number, its time where that is known, the 64
+signals as one number, of which bit 3 is signal 3, and the names of the signals that are 1, or -
+where none is. Names and times are known where kit record wrote FILE.svw.json beside the record;
+before the samples there is then a line for each signal, with where it came from.
 
 A refused table is shown as `refused 6 at 3`, the words for that number, what was found, and for a
 refused node the nodes up to it and two more. A refused record is shown so too.
 
   TABLE             a .svt file, or a text whose name ends in .txt
   RECORD            a file whose name ends in .svw
-  --names FILE.txt  a text that declares the signals' names, for a .svt or a .svw; without it signal
-                    3 is s3
+  --names FILE.txt  a text that declares the signals' names, for a .svt or a .svw. Without it they
+                    are those of the .json beside the file, and where there is none signal 3 is s3
   --nodes           the version and the nodes instead of the text: number, operator, x, y, what
                     the node is called, with the numbers of its fourth byte, and the part of the
                     assertion that it stands for
@@ -59,7 +61,7 @@ Examples:
   always (ack |-> strong((!drop)[*1:$] ##0 strobe))
 
   $ kit show examples/flush-open.svw --names flush.txt
-  3 samples
+  3 samples; names are not known of the record, for there is no examples/flush-open.svw.json
   sample 0  0x0  -
   sample 1  0x1  ack
   sample 2  0x0  -
@@ -113,13 +115,21 @@ fn run_record(
         return Err(Failure::Usage(words));
     }
     let bytes = files::read(path)?;
-    let names = names.map(source::declared).transpose()?.unwrap_or_default();
-    let (shown, status) = match xistomar::samples(&bytes) {
-        Ok(samples) => (record::accepted(&samples, &names), DONE),
-        Err(refusal) => (record::refused(&bytes, refusal), REFUSED),
+    let text = names.map(|text| Ok((text, source::declared(text)?)));
+    let text = text.transpose()?;
+    let samples = match xistomar::samples(&bytes) {
+        Ok(samples) => samples,
+        Err(refusal) => {
+            console.say(&record::refused(&bytes, refusal))?;
+            return Ok(REFUSED);
+        }
     };
+    let known = record::known(path, &bytes, text.as_ref());
+    // a record whose names are not to be trusted is shown with numbers, and then why
+    let recorded = known.as_ref().map(Option::as_ref).map_err(|_| ());
+    let shown = record::accepted(path, &samples, recorded, text.as_ref());
     console.say(&shown)?;
-    Ok(status)
+    known.map(|_| DONE)
 }
 
 /// The text, after comments that say what the judge refuses in it, and which version is not kept.

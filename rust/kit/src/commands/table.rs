@@ -1,12 +1,14 @@
 //! `kit table`: an assertion as text, to a table.
 use super::Command;
 use crate::assertion::Assertion;
+use crate::beside::{Identity, Tabled};
 use crate::console::Console;
 use crate::failure::{Failure, Outcome, DONE};
 use crate::files;
 use crate::notation::{self, Text};
 use crate::once;
 use crate::options::{Options, Spec};
+use crate::output::{self, write_whole, Kind, Output, FORCE};
 use crate::refusals;
 use crate::sizes::{self, Sizes};
 use crate::source::{self, Source};
@@ -20,13 +22,13 @@ pub const COMMAND: Command = Command {
     help: HELP,
     spec: Spec {
         values: &["-o"],
-        flags: &["--once"],
+        flags: &["--once", FORCE],
     },
     run,
 };
 
 const HELP: &str = "\
-kit table FILE.txt -o FILE.svt [--once]
+kit table FILE.txt -o FILE.svt [--once] [--force]
 
 Reads an assertion in the kit's notation and writes it as a table for the judge. The text names the
 signals of a sample by their numbers, 0 to 63, and then says the assertion:
@@ -77,7 +79,11 @@ An assertion is asked at the first sample only, where SystemVerilog's `assert pr
 every tick: `always P` asks P at every sample. Where something has no always or until above it, that
 is said, with what to write to ask it at every sample.
 
-  -o FILE.svt       where the table goes
+  -o FILE.svt       where the table goes. Beside it FILE.svt.json is written, which says what its
+                    signals are called and by its SHA-256 which text it was made of; commands that
+                    read the table look for it. A table that is there already is written over only
+                    where kit table wrote it and it was not changed since
+  --force           -o may have any ending, and writes over any file but an input
   --once            what is asked at the first sample only is meant so, and no word is said of it
 
 Example:
@@ -93,11 +99,8 @@ shown with its line and column. Only with status 0 is anything written.
 
 fn run(options: &Options, console: &mut Console) -> Outcome {
     let [input] = options.files(["one FILE.txt"])?;
-    let output = options.output()?;
-    if source::is_text(&output) {
-        let words = "-o names a table: its name ends in .svt, since .txt is for texts";
-        return Err(Failure::Usage(words.to_string()));
-    }
+    let (output, force) = Output::file(options, &OUTPUT)?;
+    output::may_write(&output, force, &OUTPUT, &[input])?;
     let text = files::read_text(input)?;
     if ["SVT\u{1}\0", "SVT\u{2}\0", "SVT\u{3}\0"]
         .iter()
@@ -109,16 +112,18 @@ fn run(options: &Options, console: &mut Console) -> Outcome {
     let read = notation::read(&text).map_err(|mistake| source::wrong(input, &mistake))?;
     let table = read.assertion.table();
     xistomar::check(&table).map_err(|refusal| refused(input, &read, refusal))?;
-    files::write(&output, &table, &[input])?;
+    let tabled = Tabled::of(
+        Identity::of(&output, &table),
+        Identity::of(input, text.as_bytes()),
+        &read.names,
+    );
+    write_whole(&output::with_beside(&output, table.clone(), &tabled))?;
     let shown = files::shown(&output);
     let summary = summary(&read.assertion);
     let whole = notation::phrase(&read.assertion, read.assertion.root(), &read.names);
     let note = once::note(&read.assertion, &read.names, options);
     console.say(&format!("{shown}: {summary}\nread as: {whole}\n{note}"))?;
-    let source = Source {
-        table,
-        names: read.names,
-    };
+    let source = Source::made(table, read.names);
     if let Some(words) = refusals::too_large(&source) {
         let parts = sizes::past(&source.table, &source.names);
         let parts = parts.map(|(_, lines)| lines).unwrap_or_default();
@@ -126,6 +131,16 @@ fn run(options: &Options, console: &mut Console) -> Outcome {
     }
     Ok(DONE)
 }
+
+/// What the command writes.
+const OUTPUT: Kind = Kind {
+    command: "table",
+    what: "a table",
+    ending: ".svt",
+    text: false,
+    own: output::own::<Tabled>,
+    beside: Some(output::own_beside::<Tabled>),
+};
 
 /// The failure for a table that the check refuses, with the part that it is about. Of what the
 /// notation makes it refuses nothing but with 9.

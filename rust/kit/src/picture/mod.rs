@@ -19,6 +19,9 @@ use layout::Layout;
 pub use scene::Scene;
 use svg::Svg;
 
+/// The second line of every picture: what wrote it.
+pub const MARK: &str = "<!-- written by kit picture -->";
+
 /// The SVG of a scene. The same scene always gives the same bytes.
 pub fn draw(scene: &Scene) -> String {
     let layout = Layout::of(scene);
@@ -53,6 +56,7 @@ fn begin(svg: &mut Svg, scene: &Scene, layout: &Layout) {
             ("aria-labelledby", &"kit-title kit-words"),
         ],
     );
+    svg.comment(MARK);
     svg.holding("title", &[("id", &"kit-title")], &title(scene));
     svg.holding("desc", &[("id", &"kit-words")], &description(scene, layout));
     style::patterns(svg);

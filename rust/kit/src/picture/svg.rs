@@ -20,6 +20,11 @@ impl Svg {
         self.open.push(tag);
     }
 
+    /// A comment on a line of its own.
+    pub fn comment(&mut self, comment: &str) {
+        self.put(format_args!("{comment}\n"));
+    }
+
     /// Ends the element that was opened last.
     pub fn close(&mut self) {
         if let Some(tag) = self.open.pop() {

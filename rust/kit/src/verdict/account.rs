@@ -14,6 +14,8 @@ use xistomar::Refusal;
 pub struct Account {
     /// The judgement, and the level after each sample.
     pub verdict: Verdict,
+    /// The time of each sample; empty where they are not known.
+    pub times: Vec<String>,
     /// The engines that judged.
     pub engine: Engine,
     /// The fast engine's refusal, where the plain one judged alone for that.
@@ -73,6 +75,7 @@ pub fn account(
     let operators: Vec<Operator> = assertion.nodes().iter().map(|it| it.operator).collect();
     Ok(Account {
         verdict,
+        times: Vec::new(),
         engine: engines.engine(),
         past: engines.past(),
         assertion: phrase(&assertion, assertion.root(), names),
@@ -104,6 +107,14 @@ fn explained(
 }
 
 impl Account {
+    /// `sample 4`, and its time where that is known: `sample 4 (55 ns)`.
+    pub fn sample(&self, sample: usize) -> String {
+        match self.times.get(sample) {
+            Some(time) => format!("sample {sample} ({time})"),
+            None => format!("sample {sample}"),
+        }
+    }
+
     /// What is held against the caller's requirements.
     pub fn judged(&self) -> Judged {
         let all = |explained: &Explained| explained.implications.iter().all(Implication::asked);

@@ -5,7 +5,6 @@ mod awaiting;
 mod decisive;
 mod implication_words;
 mod implications;
-mod json;
 mod object;
 mod part_words;
 mod reached;

@@ -9,8 +9,8 @@ pub fn part_words(account: &Account, explained: &Explained) -> String {
         true => "the whole assertion",
         false => &explained.part,
     };
-    let from = from_words(explained.decisive.from, account.verdict.samples());
-    let what = what_words(explained);
+    let from = from_words(account, explained.decisive.from);
+    let what = what_words(account, explained);
     let mut text = format!("Decisive: {part}, asked from {from}: {what}.\n");
     if let Some(so) = consequence(account.verdict.judgement.level, explained) {
         text.push_str(so);
@@ -19,23 +19,25 @@ pub fn part_words(account: &Account, explained: &Explained) -> String {
     text
 }
 
-fn from_words(from: usize, samples: usize) -> String {
-    match from < samples {
-        true => format!("sample {from}"),
+fn from_words(account: &Account, from: usize) -> String {
+    match from < account.verdict.samples() {
+        true => account.sample(from),
         false => format!("sample {from}, which is still to come"),
     }
 }
 
 /// What came of the part: of a promise of a sequence its match, of other parts what counts in them.
-fn what_words(explained: &Explained) -> String {
+fn what_words(account: &Account, explained: &Explained) -> String {
     let decisive = &explained.decisive;
     let at = match decisive.closed {
-        Some(sample) => format!(" at sample {sample}"),
+        Some(sample) => format!(" at {}", account.sample(sample)),
         None => String::new(),
     };
     let promise = matches!(explained.operator, Operator::Strong | Operator::Weak);
     match (decisive.level, decisive.matched) {
-        (_, Some((first, last))) if first == last => format!("matched at sample {first}"),
+        (_, Some((first, last))) if first == last => {
+            format!("matched at {}", account.sample(first))
+        }
         (_, Some((first, last))) => format!("matched by samples {first} to {last}"),
         (Level::Broken, _) if promise => format!("broken{at}, for it can no longer match"),
         (Level::Weak, _) if promise && !decisive.turned => {

@@ -44,7 +44,10 @@ fn level_words(level: Level) -> &'static str {
 /// Whether a longer record may change the level.
 fn closed_words(account: &Account) -> String {
     match account.verdict.closed() {
-        Some(sample) => format!("Closed at sample {sample}: a longer record never overturns it.\n"),
+        Some(sample) => {
+            let sample = account.sample(sample);
+            format!("Closed at {sample}: a longer record never overturns it.\n")
+        }
         None => "Not closed: what comes next may still change it.\n".to_string(),
     }
 }

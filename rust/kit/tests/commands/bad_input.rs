@@ -236,8 +236,8 @@ fn outputs_that_cannot_be_written() {
             for out in ["/dev/full", "none/out", ".", "good.svt/out"] {
                 let place = bench.path(out);
                 let mut words = bench.words(form);
-                words.retain(|word| *word != bench.path("out"));
-                words.push(place.clone());
+                words.retain(|word| *word != bench.out(form.1));
+                words.extend([place.clone(), "--force".into()]);
                 let ran = kit(&words);
                 assert_eq!(ran.status, 4, "{words:?}: {ran:?}");
                 let named = ran.err.contains(&*place.to_string_lossy());
@@ -260,8 +260,8 @@ fn inputs_are_not_written_over() {
             symlink(&path, &linked).unwrap();
             for same in [&path, &linked, &bench.folder.join(".").join(form.0.file())] {
                 let mut words = bench.words(form);
-                words.retain(|word| *word != bench.path("out"));
-                words.push(same.clone());
+                words.retain(|word| *word != bench.out(form.1));
+                words.extend([same.clone(), "--force".into()]);
                 let ran = kit(&words);
                 assert!([2, 4].contains(&ran.status), "{words:?}: {ran:?}");
                 assert!(ran.err.starts_with("kit "), "{ran:?}");

@@ -69,7 +69,9 @@ fn a_folder_is_searched_in_order() {
         "torn2.svw: refused 5 at 0",
     ];
     assert_eq!(listed(&ran, &run), lines);
-    assert_eq!((ran.status, ran.err.as_str()), (3, ""));
+    let told = "kit batch: 1 of 7 is broken, and no level was required, so the status does not say so: --require 1 \
+                makes it 1\n";
+    assert_eq!((ran.status, ran.err.as_str()), (3, told));
 }
 
 #[test]

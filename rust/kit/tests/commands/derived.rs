@@ -56,8 +56,8 @@ fn an_expansion_is_shown() {
     let shown = kit(["show", &table, "--expanded"]);
     assert_eq!(
         shown.out,
-        "// written out, 14 nodes\nsignals s0=0 s1=1\n\n\
-         s0 ##1 1 |-> strong(s1[*0] ##1 s1 ##1 s1)\n"
+        "// written out, 14 nodes\nsignals a=0 b=1 c=2\n\n\
+         a ##1 1 |-> strong(b[*0] ##1 b ##1 b)\n"
     );
     let nodes = kit(["show", &table, "--expanded", "--nodes"]);
     assert!(nodes.out.starts_with("version 2, 14 nodes\n"), "{nodes:?}");
@@ -65,7 +65,7 @@ fn an_expansion_is_shown() {
     assert!(given.out.starts_with("version 3, 7 nodes\n"), "{given:?}");
     assert!(given
         .out
-        .contains("op  23  x   3  y   0  [*2:2]            s1[*2]\n"));
+        .contains("op  23  x   3  y   0  [*2:2]            b[*2]\n"));
     // a table of an older version is its own expansion
     let (older, _) = made(&folder, "strong(a ##1 b)");
     let shown = kit(["show", &older, "--expanded"]);
@@ -305,9 +305,10 @@ fn what_has_not_matched_is_told_so() {
     }
 }
 
-/// The decisive part and what comes after it, to the end.
+/// The decisive part and what comes after it, up to the files.
 fn decisive(assertion: &str, samples: &[u64]) -> String {
     let said = judged(assertion, samples);
+    let (said, _) = said.split_once("\nTable: ").unwrap();
     said.split_once("Decisive: ").unwrap().1.to_string()
 }
 
@@ -363,7 +364,7 @@ fn pictures_and_many_records() {
         assert_eq!(said.status, 0, "{said:?}");
         let drawn = std::fs::read_to_string(&picture).unwrap();
         assert_eq!(drawn.matches(r#"class="implication""#).count(), 1);
-        assert!(drawn.contains(">@(s2) s0 |=&gt;<"), "{drawn}");
+        assert!(drawn.contains(">@(c) a |=&gt;<"), "{drawn}");
     }
     let mut words = vec!["batch".to_string(), table, "--asked".to_string()];
     words.extend(records);

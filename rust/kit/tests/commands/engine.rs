@@ -39,7 +39,11 @@ fn past_13_the_plain_engine_judges_and_it_is_said() {
     );
     let untold = "Which part was decisive and which |-> were asked are read off the fast engine's rows, and not told.\n";
     let end = format!("\nClosed at sample 15: a longer record never overturns it.{ALONE}{untold}");
-    assert!(said.out.ends_with(&end), "{}", said.out);
+    assert!(
+        said.out.contains(&format!("{end}\nTable: ")),
+        "{}",
+        said.out
+    );
     assert!(!said.out.contains("Decisive") && !said.out.contains("sked:"));
 }
 
@@ -51,7 +55,7 @@ fn past_13_what_cannot_be_told_is_null() {
         r#"{"line":"level 3 tested yes","engine":"plain","level":3,"#,
         r#""tested":true,"implications":null,"once":false,"#,
         r#""closed":15,"decisive":null,"#,
-        r#""reached":true},"refused":null}"#,
+        r#""reached":true},"refused":null,"#,
     ] {
         assert!(said.out.contains(part), "{part}: {}", said.out);
     }
@@ -108,7 +112,7 @@ fn asked_needs_the_fast_engine() {
     let ticks = folder.file("r.svw", record(&[1; 10]));
     let said = kit(["judge", &next, &ticks, "--asked"]);
     assert_eq!((said.status, said.line()), (0, "level 3 tested yes"));
-    assert!(said.out.ends_with("\nRequired asked: reached.\n"));
+    assert!(said.out.contains("\nRequired asked: reached.\n\n"));
     assert!(said.out.contains("\nWhich part was decisive is read off"));
     let json = kit(["judge", &next, &ticks, "--asked", "--json"]);
     assert!(json.out.contains(r#""implications":[],"#), "{}", json.out);

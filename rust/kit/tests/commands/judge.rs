@@ -28,6 +28,9 @@ fn strong() -> Vec<u8> {
     table(&[[1, 0, 0], [16, 0, 0], [32, 1, 0]])
 }
 
+/// What is told of a broken record where no level is required, after its name.
+const UNSAID: &str = " is broken, and no level was required, so the status does not say so: --require 1 makes it 1\n";
+
 #[test]
 fn a_level_has_status_0_where_none_is_required() {
     for (name, line) in [
@@ -39,7 +42,11 @@ fn a_level_has_status_0_where_none_is_required() {
         let said = flush(name, &[]);
         assert_eq!((said.status, said.line()), (0, line));
         assert_eq!(said.out.lines().nth(1), Some(""));
-        assert_eq!(said.err, "");
+        let told = match name {
+            "flush-broken.svw" => format!("kit judge: {}{UNSAID}", example(name)),
+            _ => String::new(),
+        };
+        assert_eq!(said.err, told);
     }
 }
 
@@ -52,10 +59,19 @@ fn require_compares_the_level() {
             true => format!("\nRequired {required}: reached.\n"),
             false => format!("\nRequired {required}: not reached.\n"),
         };
-        assert!(said.out.ends_with(&expected), "{}", said.out);
+        assert!(
+            said.out.contains(&format!("{expected}\nTable: ")),
+            "{}",
+            said.out
+        );
     }
-    assert_eq!(flush("flush-broken.svw", &["--require=0"]).status, 0);
-    assert_eq!(flush("flush-broken.svw", &["--require=1"]).status, 1);
+    for (required, status) in [("--require=0", 0), ("--require=1", 1)] {
+        let said = flush("flush-broken.svw", &[required]);
+        assert_eq!((said.status, said.err.as_str()), (status, ""));
+    }
+    // what else is required says nothing of the level
+    let said = flush("flush-broken.svw", &["--tested", "--json"]);
+    assert_eq!((said.status, said.err.contains(UNSAID)), (0, true));
 }
 
 #[test]
@@ -64,7 +80,7 @@ fn tested_asks_for_a_test() {
     assert_eq!(judge(&table, &ticks, &["--tested"]).status, 0);
     let said = judge(&table, &stopped, &["--tested"]);
     assert_eq!((said.status, said.line()), (1, "level 2 tested no"));
-    assert!(said.out.ends_with("\nRequired tested: not reached.\n"));
+    assert!(said.out.contains("\nRequired tested: not reached.\n\n"));
     let both = ["--require", "2", "--tested"];
     assert_eq!(judge(&table, &ticks, &both).status, 0);
     assert_eq!(judge(&table, &stopped, &both).status, 1);
@@ -80,7 +96,7 @@ fn asked_asks_for_every_implication() {
     let said = flush("flush-unasked.svw", &["--tested", "--asked"]);
     assert_eq!(said.status, 1);
     let required = "\nRequired tested: reached.\nRequired asked: not reached.\n";
-    assert!(said.out.ends_with(required), "{}", said.out);
+    assert!(said.out.contains(&format!("{required}\n")), "{}", said.out);
     assert!(
         said.out.contains(
             "\nTested, but not every |-> was asked.\n\
@@ -99,7 +115,7 @@ fn asked_asks_for_every_implication() {
     // an assertion without |-> leaves none unasked
     let [table, record] = ["p1.svt", "p1.svw"].map(example);
     let said = judge(&table, &record, &["--asked"]);
-    assert!(said.out.ends_with("\nRequired asked: reached.\n"));
+    assert!(said.out.contains("\nRequired asked: reached.\n\n"));
     assert_eq!(said.status, 0);
 }
 

@@ -27,7 +27,7 @@ fn an_unknown_command_gets_a_hint() {
     );
     wrong(["xyzzy"], "kit: xyzzy is not a command\n");
     wrong([""], "kit:  is not a command");
-    wrong(["--version"], "kit: --version is not a command");
+    wrong(["version"], "kit: version is not a command");
     wrong(
         ["help", "bach"],
         "kit: bach is not a command: did you mean batch?\n",
@@ -235,6 +235,18 @@ fn help_is_the_same_however_it_is_asked_for() {
     assert_eq!(kit(["-h"]), all);
     assert_eq!(kit(["help"]), all);
     assert_eq!(kit::<&str>([]), all);
+}
+
+#[test]
+fn the_version_is_that_of_the_package() {
+    let expected = concat!("kit ", env!("CARGO_PKG_VERSION"), "\n");
+    for word in ["--version", "-V"] {
+        let ran = kit([word]);
+        assert_eq!(
+            (ran.status, ran.out.as_str(), ran.err.as_str()),
+            (0, expected, "")
+        );
+    }
 }
 
 #[test]

@@ -535,8 +535,19 @@ top.dut.b     1        wire
 fn the_waveform_is_never_written_over() {
     let folder = Folder::new();
     let path = folder.file("w.vcd", format!("{HEAD}#0 0a 0b"));
-    let said = kit(["record", "--signals", AB, "-o", &path, &path]);
-    assert!(said.status == 2 && said.err.contains("over an input"));
+    for force in [&["--force"][..], &[]] {
+        let words = ["record", "--signals", AB, "-o", &path, &path];
+        let said = kit([&words[..], force].concat());
+        let expected = match force {
+            [] => ": the name of a record ends in .svw; --force writes it under any name\n",
+            _ => " would write over an input\n",
+        };
+        let expected = format!("kit record: -o {path}{expected}");
+        assert!(
+            said.status == 2 && said.err.starts_with(&expected),
+            "{said:?}"
+        );
+    }
     assert!(std::fs::read_to_string(&path).is_ok_and(|text| text.starts_with(HEAD)));
 }
 

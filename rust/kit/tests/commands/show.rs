@@ -363,12 +363,19 @@ fn a_record_is_shown_sample_by_sample() {
     // 5 is signals 0 and 2, and 0x12 is signals 1 and 4
     let path = folder.file("x.svw", record(&[5, 0, 0x12]));
     let ran = kit(["show", &path, "--names", &names]);
-    let wanted =
-        "3 samples\nsample 0  0x05  ack strobe\nsample 1  0x00  -\nsample 2  0x12  drop s4\n";
-    assert_eq!((ran.status, ran.out.as_str()), (0, wanted), "{}", ran.err);
-    let wanted = "1 sample\nsample 0  0x8000000000000009  s0 s3 s63\n";
-    assert_eq!(shown_record(&record(&[1 << 63 | 9])), (0, wanted.into()));
-    assert_eq!(shown_record(&record(&[])), (0, "0 samples\n".into()));
+    let unknown = format!("; names are not known of the record, for there is no {path}.json");
+    let wanted = format!(
+        "3 samples{unknown}\nsample 0  0x05  ack strobe\nsample 1  0x00  -\nsample 2  0x12  drop s4\n"
+    );
+    assert_eq!((ran.status, ran.out), (0, wanted), "{}", ran.err);
+    let (status, one) = shown_record(&record(&[1 << 63 | 9]));
+    assert!(status == 0 && one.starts_with("1 sample; names are not known"));
+    assert!(
+        one.ends_with("\nsample 0  0x8000000000000009  s0 s3 s63\n"),
+        "{one}"
+    );
+    let (status, none) = shown_record(&record(&[]));
+    assert!(status == 0 && none.starts_with("0 samples; ") && none.lines().count() == 1);
     let (_, long) = shown_record(&record(&[1; 63]));
     let has = |line: &str| long.lines().any(|known| known == line);
     assert!(

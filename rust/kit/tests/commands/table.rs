@@ -244,7 +244,7 @@ fn files_that_are_no_texts_have_status_4() {
 fn the_help_says_how_it_is_used_and_its_example_is_true() {
     let Ran { status, out, .. } = kit(["table", "--help"]);
     assert_eq!(status, 0);
-    assert!(out.starts_with("kit table FILE.txt -o FILE.svt [--once]\n"));
+    assert!(out.starts_with("kit table FILE.txt -o FILE.svt [--once] [--force]\n"));
     assert!(out.lines().all(|line| line.chars().count() <= 100), "{out}");
     let assertion = FLUSH.lines().last().unwrap();
     assert!(out.contains(&format!("\n  read as: {assertion}\n")));

@@ -1,6 +1,8 @@
 //! What the command line of `kit record` asks for.
+use super::written::OUTPUT;
 use crate::failure::Failure;
 use crate::options::Options;
+use crate::output::Output;
 use crate::source;
 use crate::vcd::{self, Constant, Edge, Header, Moments, Plan, Scale, Wanted, Wire, Wrong};
 use std::path::{Path, PathBuf};
@@ -14,6 +16,8 @@ pub struct Request {
     pub names: Option<PathBuf>,
     /// Where the record goes.
     pub output: PathBuf,
+    /// Whether it may be any file but an input.
+    pub force: bool,
     wanted: Vec<Wanted>,
     edge: Option<(Edge, String)>,
     count: Option<usize>,
@@ -27,7 +31,7 @@ impl Request {
         let usage = |words: &str| Failure::Usage(words.to_string());
         let list = options.text("--signals")?;
         let list = list.ok_or_else(|| usage("--signals NAME=PATH,.. must say what is recorded"))?;
-        let output = options.output()?;
+        let (output, force) = Output::file(options, &OUTPUT)?;
         let edge = options.text("--on")?.map(edge).transpose()?;
         if edge.is_some() && options.value("--every").is_some() {
             let words = "--on and --every are two ways to take samples: give one of them";
@@ -45,6 +49,7 @@ impl Request {
             waveform: waveform.clone(),
             names,
             output,
+            force,
             wanted,
             edge,
             count,

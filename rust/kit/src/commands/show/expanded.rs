@@ -8,10 +8,8 @@ use xistomar::Refusal;
 
 /// The expansion of a table, with its names, or the refusal.
 pub fn of(source: &Source) -> Result<Source, Refusal> {
-    Ok(Source {
-        table: xistomar::expanded(&source.table)?,
-        names: source.names.clone(),
-    })
+    let table = xistomar::expanded(&source.table)?;
+    Ok(Source::made(table, source.names.clone()))
 }
 
 /// The text of an expansion, after comments that say how many nodes it has, and how many its text makes.

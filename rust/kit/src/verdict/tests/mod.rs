@@ -1,6 +1,7 @@
 //! The verdict and its decisive part, on tables and samples worked out by hand and on random ones.
 mod clocked;
 mod listed;
+mod objects;
 mod pages;
 mod random;
 mod reaching;

@@ -1,6 +1,5 @@
-//! What is said of a verdict, in words and as JSON.
+//! What is said of a verdict in words.
 use super::super::account::Account;
-use super::super::object::{object, refusal_object};
 use super::super::words::{refusal_words, words};
 use super::super::{ready, Refused, Stopped};
 use super::{account, table};
@@ -15,7 +14,7 @@ fn names() -> Names {
     Names::of(&["ack", "strobe"])
 }
 
-fn told(nodes: &[[u8; 3]], samples: &[u64]) -> Account {
+pub fn told(nodes: &[[u8; 3]], samples: &[u64]) -> Account {
     account(&table(nodes), &names(), samples).unwrap()
 }
 
@@ -34,7 +33,7 @@ fn whole(nodes: &[[u8; 3]]) -> String {
 }
 
 /// ack |-> strong(strobe ##1 strobe): nodes 2, 6, 7
-const ASKED: [[u8; 3]; 8] = [
+pub const ASKED: [[u8; 3]; 8] = [
     [1, 0, 0],
     [1, 1, 0],
     [16, 0, 0],
@@ -252,41 +251,8 @@ fn a_part_under_not_says_so() {
     );
 }
 
-#[test]
-fn a_judged_record_as_json() {
-    let required = Required {
-        level: Some(3),
-        tested: false,
-        asked: true,
-    };
-    let expected = format!(
-        r#"{{"line":"level 1 tested yes","engine":"both","level":1,"name":"weak","meaning":"nothing broken, still waiting","tested":true,"implications":[{{"node":7,"part":"{0}","left":"{2}","reached":[0],"matched":[0],"asked":true}}],"once":true,"assertion":"{0}","signals":[{{"number":0,"name":"ack"}},{{"number":1,"name":"strobe"}}],"samples":1,"levels":[2,1],"closed":null,"decisive":{{"node":6,"part":"{1}","from":0,"level":1,"turned":false,"closed":null,"matched":null}},"required":{{"level":3,"tested":false,"asked":true,"reached":false}},"refused":null}}"#,
-        whole(&ASKED),
-        part(&ASKED, 6),
-        part(&ASKED, 2)
-    );
-    let written = object(&told(&ASKED, &[3]), required).to_string();
-    assert_eq!(written, expected);
-}
-
-#[test]
-fn a_closed_record_as_json() {
-    let written = object(&told(&ASKED, &[3, 2]), Required::default()).to_string();
-    let closed = r#""from":0,"level":3,"turned":false,"closed":1,"matched":[0,1]}"#;
-    assert!(written.contains(closed), "{written}");
-    let untested = object(&told(&ASKED, &[0]), Required::default()).to_string();
-    assert!(
-        untested.contains(r#""tested":false,"implications":"#),
-        "{untested}"
-    );
-    let unasked = r#""reached":[0],"matched":[],"asked":false}]"#;
-    assert!(untested.contains(unasked), "{untested}");
-    let free = r#""required":{"level":null,"tested":false,"asked":false,"reached":true}"#;
-    assert!(untested.contains(free), "{untested}");
-}
-
 /// The refusal of a table or a record.
-fn refused(table: &[u8], record: &[u8]) -> Refused {
+pub fn refused(table: &[u8], record: &[u8]) -> Refused {
     match ready(Engine::Both, table, record) {
         Err(Stopped::Refused(refused)) => refused,
         other => panic!("this is no refusal: {other:?}"),
@@ -294,7 +260,7 @@ fn refused(table: &[u8], record: &[u8]) -> Refused {
 }
 
 #[test]
-fn a_refusal_in_words_and_as_json() {
+fn a_refusal_in_words() {
     // strong(ack[*0]) is refused with 9 at node 3, before the record, which is too short.
     let hollow = table(&[[1, 0, 0], [16, 0, 0], [20, 1, 0], [32, 2, 0]]);
     let refused = refused(&hollow, b"SVW");
@@ -305,22 +271,4 @@ fn a_refusal_in_words_and_as_json() {
                     kit show hollow.svt shows the table.\n";
     let said = refusal_words(refused, Path::new("hollow.svt"), &hollow, "");
     assert_eq!(said, expected);
-    let written = refusal_object(refused, Engine::Fast, Required::default()).to_string();
-    let expected = r#"{"line":"refused 9 at 3","engine":"fast","level":null,"name":null,"meaning":null,"tested":null,"implications":[],"once":null,"assertion":null,"signals":[],"samples":null,"levels":[],"closed":null,"decisive":null,"required":{"level":null,"tested":false,"asked":false,"reached":false},"refused":{"file":"table","number":9,"node":3,"reason":"strong, weak or |-> over a sequence that matches no k letters ⊤, k at least 1"}}"#;
-    assert_eq!(written, expected);
-}
-
-#[test]
-fn both_objects_have_the_same_keys() {
-    let keys = |json| match json {
-        super::super::json::Json::Object(entries) => {
-            entries.into_iter().map(|(key, _)| key).collect::<Vec<_>>()
-        }
-        _ => vec![],
-    };
-    let refused = refused(b"", b"");
-    let judged = keys(object(&told(&ASKED, &[3]), Required::default()));
-    let refused = refusal_object(refused, Engine::Both, Required::default());
-    assert_eq!(judged, keys(refused));
-    assert_eq!(judged.len(), 16);
 }

@@ -25,11 +25,20 @@ impl Bench {
         self.folder.join(name)
     }
 
+    /// Where the result of a form goes.
+    pub fn out(&self, words: &[&str]) -> PathBuf {
+        self.path(match words[0] {
+            "table" => "out.svt",
+            "record" => "out.svw",
+            _ => "out.svg",
+        })
+    }
+
     /// The words of a form.
     pub fn words(&self, (kind, words): Form) -> Vec<PathBuf> {
         let word = |word: &&str| match *word {
             "IN" => self.path(kind.file()),
-            "OUT" => self.path("out"),
+            "OUT" => self.out(words),
             "TABLE" => self.path("good.svt"),
             "RECORD" => self.path("good.svw"),
             word => PathBuf::from(word),
@@ -46,17 +55,19 @@ impl Bench {
     }
 
     /// Tries a form on the bad file that stands there, whose bytes are these; or on one without any,
-    /// which cannot be read. In every fifth run an output stands there before.
+    /// which cannot be read. In every fifth run an output stands there before, which --force gives up.
     pub fn try_form(&mut self, form: Form, name: &str, bytes: Option<&[u8]>) {
-        let words = self.words(form);
+        let mut words = self.words(form);
         let case = format!("{:?} on {name}", form.1);
         self.trying.lock().unwrap().clone_from(&case);
         self.runs += 1;
-        let out = self.path("out");
-        let before = Some(BEFORE).filter(|_| self.runs.is_multiple_of(5));
+        let out = self.out(form.1);
+        let writes = form.1.contains(&"OUT");
+        let before = Some(BEFORE).filter(|_| writes && self.runs.is_multiple_of(5));
         let _ = fs::remove_file(&out);
         if let Some(before) = before {
             put(&out, before);
+            words.push(PathBuf::from("--force"));
         }
         let ran = kit(&words);
         let left = fs::read(&out).ok();
@@ -65,7 +76,6 @@ impl Bench {
             None => assert_eq!(ran.status, 4, "{case}: {ran:?}"),
             Some(bytes) => self.answer(form, &ran, bytes, &case),
         }
-        let writes = form.1.contains(&"OUT");
         match (ran.status, left) {
             (0, Some(left)) if writes => promised(form, &left, &case),
             (0, None) if writes => panic!("{case}: no output"),

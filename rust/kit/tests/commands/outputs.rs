@@ -1,0 +1,246 @@
+//! Where results go: what is written over, what is not, and standard output.
+use crate::support::{example, kit, record, Folder, Ran};
+use std::fs;
+use std::os::unix::fs::{symlink, PermissionsExt};
+
+/// A waveform of one signal.
+const WAVE: &str =
+    "$timescale 1ns $end $var wire 1 a ack $end $enddefinitions $end\n#0 0a #10 1a\n";
+
+/// A folder with the inputs of the commands that write.
+struct Bench {
+    folder: Folder,
+    text: String,
+    wave: String,
+}
+
+impl Bench {
+    fn new() -> Bench {
+        let folder = Folder::new();
+        let text = folder.file("in.txt", "signals ack\nalways weak(ack)\n");
+        let wave = folder.file("in.vcd", WAVE);
+        Bench { folder, text, wave }
+    }
+
+    /// Runs a command that writes, with this output and more words.
+    fn run(&self, command: &str, output: &str, more: &[&str]) -> Ran {
+        let record = example("flush.svw");
+        let words = match command {
+            "table" => vec!["table", &self.text],
+            "record" => vec!["record", &self.wave, "--signals", "ack=ack"],
+            _ => vec!["picture", &self.text, &record],
+        };
+        kit([&words[..], &["-o", output], more].concat())
+    }
+}
+
+/// Each command that writes, what it writes and its ending.
+const WRITING: [(&str, &str, &str); 3] = [
+    ("table", "a table", ".svt"),
+    ("record", "a record", ".svw"),
+    ("picture", "a picture", ".svg"),
+];
+
+/// The files of a folder but for the inputs, by name.
+fn left(folder: &Folder) -> Vec<String> {
+    let names = fs::read_dir(&**folder).unwrap();
+    let names = names.map(|entry| entry.unwrap().file_name().into_string().unwrap());
+    let mut names: Vec<String> = names.filter(|name| !name.starts_with("in.")).collect();
+    names.sort();
+    names
+}
+
+#[test]
+fn another_ending_is_refused_unless_forced() {
+    for (command, what, ending) in WRITING {
+        let bench = Bench::new();
+        for name in [
+            "x.txt", "x.vcd", "x.png", "x.svt", "x.svw", "x.svg", "x", ".svt", ".svw", ".svg",
+            "x.SVT",
+        ] {
+            if name.ends_with(ending) && name != ending {
+                continue;
+            }
+            let output = bench.folder.path(name);
+            let ran = bench.run(command, &output, &[]);
+            let told = format!(
+                "kit {command}: -o {output}: the name of {what} ends in {ending}; --force writes it under any name\n"
+            );
+            assert!(ran.status == 2 && ran.out.is_empty(), "{ran:?}");
+            assert!(ran.err.starts_with(&told), "{}", ran.err);
+        }
+        assert_eq!(left(&bench.folder), [""; 0]);
+        let ran = bench.run(command, &bench.folder.path("x.bin"), &["--force"]);
+        assert_eq!((ran.status, ran.err.as_str()), (0, ""));
+    }
+}
+
+#[test]
+fn a_file_that_the_command_did_not_write_is_kept() {
+    for (command, _, ending) in WRITING {
+        let bench = Bench::new();
+        let output = bench.folder.path(&format!("x{ending}"));
+        let foreign: [&[u8]; 4] = [
+            b"",
+            b"my notes",
+            &record(&[1]),
+            b"<svg xmlns=\"x\">\n<!-- mine -->\n</svg>\n",
+        ];
+        for bytes in foreign {
+            fs::write(&output, bytes).unwrap();
+            let ran = bench.run(command, &output, &[]);
+            let told = format!(
+                "kit {command}: {output}: cannot be written: it is there already, and kit {command} did not write it, \
+                 or it was changed since; another name keeps it, --force writes over it\n"
+            );
+            assert_eq!((ran.status, ran.out.as_str(), ran.err), (4, "", told));
+            assert_eq!(fs::read(&output).unwrap(), bytes);
+        }
+        assert_eq!(left(&bench.folder), [format!("x{ending}")]);
+        assert_eq!(bench.run(command, &output, &["--force"]).status, 0);
+        assert_ne!(fs::read(&output).unwrap(), foreign[3]);
+        // its own is written over, and one that was changed since is not
+        let own = fs::read(&output).unwrap();
+        assert_eq!(bench.run(command, &output, &[]).status, 0);
+        assert_eq!(fs::read(&output).unwrap(), own);
+        let mut changed = own.clone();
+        changed[1] ^= 1;
+        if command != "picture" {
+            fs::write(&output, &changed).unwrap();
+            assert_eq!(bench.run(command, &output, &[]).status, 4);
+        }
+    }
+}
+
+/// What another command wrote is not this one's, by whatever name.
+#[test]
+fn each_command_knows_its_own_files() {
+    for (command, _, ending) in WRITING {
+        for (other, ..) in WRITING {
+            let bench = Bench::new();
+            let output = bench.folder.path(&format!("x{ending}"));
+            assert_eq!(bench.run(other, &output, &["--force"]).status, 0);
+            let before = fs::read(&output).unwrap();
+            let ran = bench.run(command, &output, &[]);
+            let status = if command == other { 0 } else { 4 };
+            assert_eq!(ran.status, status, "{other} and then {command}");
+            if status != 0 {
+                assert_eq!(fs::read(&output).unwrap(), before);
+            }
+        }
+    }
+}
+
+/// The file beside a table or a record is kept too, where the kit did not write it.
+#[test]
+fn what_stands_beside_is_kept() {
+    for (command, ending) in [("table", ".svt"), ("record", ".svw")] {
+        let bench = Bench::new();
+        let output = bench.folder.path(&format!("x{ending}"));
+        let beside = format!("{output}.json");
+        fs::write(&beside, "{}").unwrap();
+        let ran = bench.run(command, &output, &[]);
+        let begins = format!("kit {command}: {beside}: cannot be written: it is there already");
+        assert!(
+            ran.status == 4 && ran.err.starts_with(&begins),
+            "{}",
+            ran.err
+        );
+        assert_eq!(fs::read(&beside).unwrap(), b"{}");
+        assert_eq!(left(&bench.folder), [format!("x{ending}.json")]);
+        assert_eq!(bench.run(command, &output, &["--force"]).status, 0);
+        // of a file that is gone since, what stands beside is still its own
+        fs::remove_file(&output).unwrap();
+        assert_eq!(bench.run(command, &output, &[]).status, 0);
+    }
+}
+
+#[test]
+fn standard_output_takes_a_picture_and_nothing_else() {
+    let bench = Bench::new();
+    let ran = bench.run("picture", "-", &[]);
+    assert_eq!(
+        (ran.status, ran.err.as_str()),
+        (0, "standard output: level 0 tested yes, 6 samples\n")
+    );
+    let output = bench.folder.path("x.svg");
+    assert_eq!(bench.run("picture", &output, &[]).status, 0);
+    assert_eq!(ran.out, fs::read_to_string(&output).unwrap());
+    for (command, what, ending) in WRITING.into_iter().take(2) {
+        for more in [&[][..], &["--force"]] {
+            let ran = bench.run(command, "-", more);
+            let told = format!(
+                "kit {command}: {what} is no text, which standard output is for: -o names a file that ends in {ending}\n"
+            );
+            assert!(ran.status == 2 && ran.err.starts_with(&told), "{}", ran.err);
+        }
+    }
+}
+
+/// What cannot be written leaves what was there, and nothing half done beside it.
+#[test]
+fn a_file_is_written_whole_or_not_at_all() {
+    for (command, _, ending) in WRITING {
+        let bench = Bench::new();
+        let name = format!("sub/x{ending}");
+        let output = bench.folder.path(&name);
+        let ran = bench.run(command, &output, &[]);
+        assert!(
+            ran.status == 4 && ran.err.contains("its folder is not there"),
+            "{}",
+            ran.err
+        );
+        fs::create_dir(bench.folder.join("sub")).unwrap();
+        assert_eq!(bench.run(command, &output, &[]).status, 0);
+        let names = fs::read_dir(bench.folder.join("sub")).unwrap();
+        let names: Vec<_> = names.map(|entry| entry.unwrap().file_name()).collect();
+        assert!(
+            names
+                .iter()
+                .all(|name| !name.to_string_lossy().contains(".part")),
+            "{names:?}"
+        );
+        let before = fs::read(&output).unwrap();
+        // a mistake in an input changes nothing
+        fs::write(&bench.text, "signals ack\nalways weak(\n").unwrap();
+        fs::write(&bench.wave, "$end").unwrap();
+        assert_eq!(bench.run(command, &output, &["--force"]).status, 4);
+        assert_eq!(fs::read(&output).unwrap(), before);
+    }
+}
+
+/// A link stays a link, and the file that it leads to keeps who may read it.
+#[test]
+fn a_link_stays_and_so_do_permissions() {
+    for (command, _, ending) in WRITING {
+        let bench = Bench::new();
+        let output = bench.folder.path(&format!("x{ending}"));
+        assert_eq!(bench.run(command, &output, &[]).status, 0);
+        fs::set_permissions(&output, fs::Permissions::from_mode(0o640)).unwrap();
+        let link = bench.folder.path(&format!("link{ending}"));
+        symlink(&output, &link).unwrap();
+        assert_eq!(bench.run(command, &link, &["--force"]).status, 0);
+        assert!(fs::symlink_metadata(&link).unwrap().is_symlink());
+        let mode = fs::metadata(&output).unwrap().permissions().mode();
+        assert_eq!(mode & 0o777, 0o640);
+    }
+}
+
+/// Devices and folders are no place for a result, even forced.
+#[test]
+fn what_is_no_ordinary_file_is_never_replaced() {
+    for (command, ..) in WRITING {
+        let bench = Bench::new();
+        let ran = bench.run(command, "/dev/null", &["--force"]);
+        let told =
+            format!("kit {command}: /dev/null: cannot be written: this is not an ordinary file\n");
+        assert_eq!((ran.status, ran.err), (4, told));
+        let folder = bench.folder.path("");
+        let ran = bench.run(command, &folder, &["--force"]);
+        assert!(
+            ran.status == 4 && ran.err.contains("cannot be written: this is a folder"),
+            "{}",
+            ran.err
+        );
+    }
+}
