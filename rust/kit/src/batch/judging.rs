@@ -187,7 +187,11 @@ impl<'s, 'a, 'b> Worker<'s, 'a, 'b> {
     /// Why the file beside a record does not fit it, or the table, if it does not.
     fn mismatch(&self, record: &Path) -> Option<String> {
         let recorded: Recorded = match beside::known(record, &self.bytes) {
-            Err(failure) => return Some(failure.words().to_string()),
+            Err(failure) => {
+                let own = format!("{}: ", files::shown(record));
+                let words = failure.words();
+                return Some(words.strip_prefix(&own).unwrap_or(words).to_string());
+            }
             Ok(None) => {
                 self.shared.unnamed.fetch_add(1, Ordering::Relaxed);
                 return None;
@@ -201,7 +205,7 @@ impl<'s, 'a, 'b> Worker<'s, 'a, 'b> {
             format!("signal {} is {words}", it.number())
         });
         let unlike = unlike.collect::<Vec<_>>().join("; ");
-        (!unlike.is_empty()).then(|| format!("{}: {unlike}", files::shown(record)))
+        (!unlike.is_empty()).then_some(unlike)
     }
 
     /// Judges the record that was read.

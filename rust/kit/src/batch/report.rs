@@ -220,7 +220,7 @@ fn other(name: &str, answer: &Answer) -> Option<(u8, String)> {
         Answer::Judged(_) => return None,
         Answer::Refused(it) => (0, format!("refused {}  {name}\n", it.number())),
         Answer::Unreadable(why) => (1, format!("unreadable  {name}: {why}\n")),
-        Answer::Mismatched(why) => (2, format!("mismatched  {why}\n")),
+        Answer::Mismatched(why) => (2, format!("mismatched  {name}: {why}\n")),
         Answer::Differ(it) => (3, format!("{}  {name}\n", it.line())),
     })
 }

@@ -172,10 +172,13 @@ kit batch TABLE DIR|FILES.. [--require N] [--tested] [--asked] [--once] [--list]
 
 Judges many records by one table and reports how many held, are open or broken, are refused, or
 could not be read. Of a folder every file below it whose name ends in .svw is judged, by name; links
-to folders are not entered. A torn or unreadable file is counted and named, and the run goes on; of
-the broken records the first twenty are named. The report counts the records that did not test the
-assertion, and those that never asked some |->, where |=>, #-# and #=# count too; and it says what
-is asked at the first sample only, and how to ask it at every one.
+to folders are not entered. A torn or unreadable file is counted and named, and the run goes on. So
+is one whose RECORD.json speaks of other signals than the table does, or of other bytes, and it is
+not judged. Every record that misses what --require, --tested and --asked ask is named, and of the
+others that are broken the first twenty. The report counts the records that did not test the
+assertion, those that never asked some |->, where |=>, #-# and #=# count too, and those without a
+RECORD.json, whose names are not known; and it says what is asked at the first sample only, and how
+to ask it at every one.
 
 While it runs, a terminal shows a bar on standard error. The slowest record is the one that took
 longest to judge, reading not counted.
@@ -195,13 +198,14 @@ longest to judge, reading not counted.
                     run/0004.svw: level 2 tested yes, a |-> never asked
                     run/0002.svw: refused 5 at 0
                     run/0003.svw: unreadable: there is no such file
+                    run/0005.svw: mismatched: signal 1 is drop in the assertion, strobe in the ..
 
 Example, for every record of tonight's run, none of them broken:
 
   $ kit batch flush.svt run/ --require 1
 
 The status is 5 where the engines differ on a record, or else 4 where a file or a folder could not
-be read, or else 3 where a record is refused (or the table, and then nothing is judged), or else 1
+be read or a record does not fit what is known of it, or else 3 where a record is refused (or the table, and then nothing is judged), or else 1
 where a record does not reach what --require, --tested and --asked ask, or else 0. It is 2 for a
 wrong command line.
 ";

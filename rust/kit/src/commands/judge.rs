@@ -115,7 +115,14 @@ samples from which it was reached and those at which its right side was then ask
 never asked; what is asked at the first sample only, and how to ask it at every one; the level after
 each sample, with samples counted from 0; the sample at which it closed, after which nothing can
 change it; and the decisive part, which is the smallest part of the assertion that by itself
-explains the level.
+explains the level. At the end stand what the verdict is of: the table and the record with their
+SHA-256, and where they are known the waveform, where each signal came from and the times of the
+samples; whose names the signals have; and the version of the kit.
+
+What is known of a record stands in RECORD.json beside it, which kit record writes, and of a table
+in TABLE.json, which kit table writes. Where the two do not mean the same signals, or one of them
+was changed since, there is no verdict but a message with both names. A record without such a file
+is judged, and it is said that its names are not known.
 
 The levels: 3 held whatever comes next, 2 held as the record stands, 1 nothing broken and still
 waiting, 0 broken.
@@ -135,8 +142,11 @@ no rows to read off which |-> were asked and which part was decisive, and neithe
 
   TABLE             a .svt file, or a text whose name ends in .txt
   RECORD            a .svw file of at most 63 samples
-  --names FILE.txt  a text that declares the signals' names, for a .svt; without it signal 3 is s3
-  --require N       the level must be N or higher: 0, 1, 2 or 3
+  --names FILE.txt  a text that declares the signals' names, for a .svt. Without it they are those
+                    of the table's .json or else of the record's, and where there is none signal 3
+                    is s3
+  --require N       the level must be N or higher: 0, 1, 2 or 3. Without it a line on standard error
+                    says of a broken record that the status does not say so
   --tested          the record must test the assertion: some strong or weak in it must be reached
   --asked           the record must ask every |->: its right side must be asked, from a sample at
                     which the |-> was reached
@@ -161,7 +171,10 @@ The JSON object has every key always, null or empty where there is nothing to sa
   once          true where something is asked at the first sample only, with --once and without
   assertion     the assertion as text
   signals       the signals that it asks about: [{\"number\":0,\"name\":\"ack\"},..]
+  names         whose their names are: agreed, a text's that the record has too; record, the
+                record's alone; text, a text's, while those of the record are not known; none
   samples       how many samples the record has
+  times         the time of each sample, [\"15 ns\",..]; empty where they are not known
   levels        the level after 0, 1, .. samples: levels[0] is before any sample
   closed        the sample at which the level closed, or null
   decisive      the decisive part: {\"node\":10,\"part\":\"..\",\"from\":1,\"level\":1,\"turned\":false,
@@ -173,6 +186,12 @@ The JSON object has every key always, null or empty where there is nothing to sa
   required      {\"level\":3,\"tested\":false,\"asked\":false,\"reached\":false}: what was required, and
                 whether all of it is reached
   refused       null, or {\"file\":\"table\",\"number\":9,\"node\":3,\"reason\":\"..\"}
+  table         {\"file\":\"flush.txt\",\"sha256\":\"..\"}: the table, or its text, as it was read
+  record        the same of the record; sha256 is null of a file that is longer than any record
+  recorded      null, or what RECORD.json says: {\"waveform\":{\"file\":\"..\",\"sha256\":\"..\"},
+                \"signals\":[{\"number\":0,\"name\":\"ack\",\"from\":\"top.ack\"},..],\"options\":[..],
+                \"kit\":\"0.2.0\"}, with the words of kit record's command line and its version
+  kit           the version of the kit that judged
 
 For a message on standard error (status 2, 4 or 5) there is no object.
 

@@ -99,7 +99,7 @@ flag the level is open at the end of the record.
 
   TABLE             a .svt file, or a text whose name ends in .txt
   RECORD            a .svw file of at most 63 samples
-  --names FILE.txt  a text that declares the signals' names, for a .svt; without it signal 3 is s3
+  --names FILE.txt  a text that declares the signals' names, for a .svt, as for kit judge
   --engine WHICH    both, which is the default, fast or plain, as for kit judge. Where the plain
                     engine judges alone there are no rows for |-> and no decisive part, and the
                     picture and the line say so

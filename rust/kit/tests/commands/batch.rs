@@ -147,6 +147,39 @@ fn the_first_twenty_broken_records_are_named() {
     assert_eq!(ran.status, 0);
 }
 
+/// Every record that misses what is required is named, however many, and a broken one that does not miss it.
+#[test]
+fn every_record_that_misses_what_is_required_is_named() {
+    let run = Folder::new();
+    for number in 0..25 {
+        run.file(format!("{number:02}.svw"), example_bytes("flush-open.svw"));
+    }
+    run.file("broken.svw", example_bytes("flush-broken.svw"));
+    run.file("held.svw", example_bytes("flush.svw"));
+    run.file("unasked.svw", example_bytes("flush-unasked.svw"));
+    let named = |words: &[&str]| -> (u8, Vec<String>) {
+        let words = words.iter().map(OsStr::new).chain([run.as_os_str()]);
+        let ran = batch(&words.collect::<Vec<_>>());
+        let (_, named) = ran.out.rsplit_once("\n\n").unwrap();
+        let shown = format!("{}/", run.display());
+        let lines = named.lines().map(|line| line.replace(&shown, ""));
+        (ran.status, lines.collect())
+    };
+    let missed = |number: usize| format!("missed  {number:02}.svw: level 1 tested yes");
+    let mut wanted: Vec<String> = (0..25).map(missed).collect();
+    wanted.push("missed  broken.svw: level 0 tested yes".to_string());
+    assert_eq!(named(&["--require", "2"]), (1, wanted));
+    let wanted = [
+        "missed  unasked.svw: level 2 tested yes, a |-> never asked",
+        "broken  broken.svw",
+    ];
+    assert_eq!(named(&["--asked"]), (1, wanted.map(String::from).to_vec()));
+    assert_eq!(
+        named(&["--require=0"]),
+        (0, vec!["broken  broken.svw".to_string()])
+    );
+}
+
 #[test]
 fn level_3_is_counted_apart_from_level_2() {
     let [table, open, held] = ["p1.svt", "p1.svw", "p3.svw"].map(example);

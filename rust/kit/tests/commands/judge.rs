@@ -468,23 +468,15 @@ fn the_help_names_every_key_of_the_object() {
     let help = kit(["judge", "--help"]);
     assert_eq!(help.status, 0);
     let object = flush("flush.svw", &["--json"]).out;
-    for key in [
-        "line",
-        "level",
-        "tested",
-        "implications",
-        "once",
-        "assertion",
-        "signals",
-        "samples",
-        "levels",
-        "closed",
-        "decisive",
-        "required",
-        "refused",
-    ] {
+    let object: serde_json::Value = serde_json::from_str(&object).unwrap();
+    let keys: Vec<&String> = object.as_object().unwrap().keys().collect();
+    assert_eq!(keys.len(), 22);
+    // name and meaning stand in the line of level
+    for key in keys
+        .into_iter()
+        .filter(|key| *key != "name" && *key != "meaning")
+    {
         assert!(help.out.contains(&format!("\n  {key} ")), "{key}");
-        assert!(object.contains(&format!(r#""{key}":"#)), "{key}");
     }
     assert!(help.out.lines().all(|line| line.chars().count() <= 100));
 }
