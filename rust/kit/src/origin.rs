@@ -151,7 +151,11 @@ impl Origin {
         let unknown = format!("not known of the record, for there is no {record}.json");
         match self.naming {
             Naming::Agreed => format!("those of {text}, and the record has the same"),
-            Naming::Record => format!("the record's; {table} has none"),
+            Naming::Record => {
+                format!(
+                    "the record's; {table} has none, so nothing says that it means these signals"
+                )
+            }
             Naming::Text => format!("those of {text}; {unknown}"),
             Naming::Nobody => format!("{table} has none; {unknown}"),
         }

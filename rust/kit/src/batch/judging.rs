@@ -46,7 +46,7 @@ pub struct Run<'a> {
     pub answers: Vec<Answer>,
     /// The record that took the longest to judge, reading not counted.
     pub slowest: Option<(Duration, &'a Path)>,
-    /// How many were judged whose names are not known.
+    /// How many were judged of which nothing says that their signals are the table's.
     pub unnamed: usize,
 }
 
@@ -186,20 +186,19 @@ impl<'s, 'a, 'b> Worker<'s, 'a, 'b> {
 
     /// Why the file beside a record does not fit it, or the table, if it does not.
     fn mismatch(&self, record: &Path) -> Option<String> {
-        let recorded: Recorded = match beside::known(record, &self.bytes) {
+        let own = format!("{}: ", files::shown(record));
+        let recorded: Option<Recorded> = match beside::known(record, &self.bytes) {
+            Ok(recorded) => recorded,
             Err(failure) => {
-                let own = format!("{}: ", files::shown(record));
                 let words = failure.words();
                 return Some(words.strip_prefix(&own).unwrap_or(words).to_string());
             }
-            Ok(None) => {
-                self.shared.unnamed.fetch_add(1, Ordering::Relaxed);
-                return None;
-            }
-            Ok(Some(recorded)) => recorded,
         };
         let By { names, asked, .. } = self.shared.by;
-        let unlike = beside::unlike(names, asked, &recorded.names());
+        if recorded.is_none() || names.all().is_empty() {
+            self.shared.unnamed.fetch_add(1, Ordering::Relaxed);
+        }
+        let unlike = beside::unlike(names, asked, &recorded?.names());
         let unlike = unlike.iter().map(|it| {
             let words = it.words("the assertion", "the record");
             format!("signal {} is {words}", it.number())

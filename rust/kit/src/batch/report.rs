@@ -106,7 +106,7 @@ impl Report<'_> {
         rows.push(self.never_asked(judged));
         if self.run.unnamed > 0 {
             let words =
-                format!("of {judged} judged: no .svw.json beside them says what their signals are");
+                format!("of {judged} judged: nothing says that their signals are the table's");
             rows.push(row("names not known", self.run.unnamed, &words));
         }
         if self.required.asks() {

@@ -176,9 +176,9 @@ to folders are not entered. A torn or unreadable file is counted and named, and 
 is one whose RECORD.json speaks of other signals than the table does, or of other bytes, and it is
 not judged. Every record that misses what --require, --tested and --asked ask is named, and of the
 others that are broken the first twenty. The report counts the records that did not test the
-assertion, those that never asked some |->, where |=>, #-# and #=# count too, and those without a
-RECORD.json, whose names are not known; and it says what is asked at the first sample only, and how
-to ask it at every one.
+assertion, those that never asked some |->, where |=>, #-# and #=# count too, and those of which
+nothing says that their signals are the table's, since the table or the record has no names; and it
+says what is asked at the first sample only, and how to ask it at every one.
 
 While it runs, a terminal shows a bar on standard error. The slowest record is the one that took
 longest to judge, reading not counted.

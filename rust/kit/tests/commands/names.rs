@@ -213,7 +213,7 @@ fn a_record_without_names_is_judged_and_it_is_said() {
         .out
         .lines()
         .find(|line| line.starts_with("names not known"));
-    let words = "1  of 1 judged: no .svw.json beside them says what their signals are";
+    let words = "1  of 1 judged: nothing says that their signals are the table's";
     assert!(row.is_some_and(|row| row.ends_with(words)), "{}", ran.out);
 }
 
@@ -366,10 +366,20 @@ fn the_names_of_a_record_do_for_a_table_that_has_none() {
         .out
         .contains("\nAssertion: always (ack |-> strong((!drop)[*1:$] ##0 strobe))\n"));
     let line = format!(
-        "\nNames: the record's; {} has none.\n",
+        "\nNames: the record's; {} has none, so nothing says that it means these signals.\n",
         example("flush.svt")
     );
     assert!(ran.out.contains(&line), "{}", ran.out);
+    let ran = kit(["batch", &example("flush.svt"), &bench.good()]);
+    let row = ran
+        .out
+        .lines()
+        .find(|line| line.starts_with("names not known"));
+    assert!(
+        row.is_some_and(|row| row.contains("  1  of 1 judged: ")),
+        "{}",
+        ran.out
+    );
     let two = bench.record("two.svw", "ack=ack,drop=drop");
     let ran = kit(["judge", &example("flush.svt"), &two]);
     let line = format!(
