@@ -19,6 +19,9 @@ pub struct Source {
     pub read: Read,
     /// The text that the names are of, if they are of any.
     pub text: Option<Text>,
+    /// The comment at the head of the text that the table is made of. The text that only names the
+    /// signals of a table is not the one that is judged, and gives none.
+    pub comment: Option<String>,
 }
 
 /// A text that names signals.
@@ -38,6 +41,7 @@ impl Source {
             table,
             names,
             text: None,
+            comment: None,
         }
     }
 }
@@ -65,6 +69,7 @@ pub fn table(path: &Path, names: Option<&Path>) -> Result<Source, Failure> {
             sha256: Some(sha256::of(text.as_bytes())),
         },
         text: Some(Text::Given(path.to_path_buf())),
+        comment: notation::comment(&text),
     })
 }
 
@@ -76,6 +81,7 @@ fn bytes(path: &Path, given: Option<&Path>) -> Result<Source, Failure> {
         Ok(_) => beside::known(path, &table)?,
         Err(_) => None,
     };
+    let comment = tabled.as_ref().and_then(|tabled| tabled.comment.clone());
     let given = given.map(|text| Ok((text, declared(text)?))).transpose()?;
     let (names, text) = match (given, tabled) {
         (None, None) => (Names::none(), None),
@@ -93,6 +99,7 @@ fn bytes(path: &Path, given: Option<&Path>) -> Result<Source, Failure> {
         table,
         names,
         text,
+        comment,
     })
 }
 

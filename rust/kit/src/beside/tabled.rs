@@ -13,6 +13,8 @@ pub struct Tabled {
     pub table: Identity,
     /// The text that it was made of.
     pub text: Identity,
+    /// The comment at the head of the text.
+    pub comment: Option<String>,
     /// The signals that the text declares.
     pub signals: Vec<Declared>,
 }
@@ -44,13 +46,19 @@ impl Beside for Tabled {
     }
 
     fn texts(&self) -> Vec<&str> {
-        vec![&self.kit, &self.text.file, &self.text.sha256]
+        let texts = [&self.kit, &self.text.file, &self.text.sha256].into_iter();
+        texts.chain(&self.comment).map(String::as_str).collect()
     }
 }
 
 impl Tabled {
     /// What is known of a table that was just made of a text.
-    pub fn of(table: Identity, text: Identity, names: &Names) -> Tabled {
+    pub fn of(
+        table: Identity,
+        text: Identity,
+        comment: Option<String>,
+        names: &Names,
+    ) -> Tabled {
         let signals = names.all().iter().cloned();
         let signals = signals.map(|(name, number)| Declared { number, name });
         Tabled {
@@ -58,6 +66,7 @@ impl Tabled {
             kit: crate::VERSION.to_string(),
             table,
             text,
+            comment,
             signals: signals.collect(),
         }
     }

@@ -115,6 +115,7 @@ fn run(options: &Options, console: &mut Console) -> Outcome {
     let tabled = Tabled::of(
         Identity::of(&output, &table),
         Identity::of(input, text.as_bytes()),
+        notation::comment(&text),
         &read.names,
     );
     write_whole(&output::with_beside(&output, table.clone(), &tabled))?;

@@ -1,5 +1,6 @@
 //! Assertions as text: a small notation for exactly the operators of documents 01 and 02.
 //! docs/NOTATION.md has its grammar.
+mod comment;
 mod counts;
 mod declarations;
 mod edges;
@@ -16,6 +17,7 @@ mod writer;
 
 use crate::assertion::Assertion;
 use crate::names::Names;
+pub use comment::comment;
 pub use mistake::Mistake;
 use parser::Parser;
 pub use sorts::called;

@@ -1,5 +1,6 @@
 //! Tests of the notation.
 mod bytes;
+mod comment;
 mod declaring;
 mod derived;
 mod edges;
