@@ -9,6 +9,9 @@ use crate::source::{Source, Text};
 use serde::Serialize;
 use std::path::Path;
 
+/// The label of the line with the times of the samples.
+pub const TIMES: &str = "Times";
+
 /// A file that was read.
 #[derive(Clone, Debug, PartialEq, Eq, Serialize)]
 pub struct Read {
@@ -124,7 +127,7 @@ impl Origin {
             lines.push(("Waveform", recorded.waveform.words()));
             lines.push(("Signals", signals(recorded)));
             if !recorded.times.is_empty() {
-                lines.push(("Times", recorded.times.join(", ")));
+                lines.push((TIMES, recorded.times.join(", ")));
             }
         }
         lines.push(("Names", self.naming_words()));

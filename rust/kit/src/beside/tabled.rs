@@ -53,12 +53,7 @@ impl Beside for Tabled {
 
 impl Tabled {
     /// What is known of a table that was just made of a text.
-    pub fn of(
-        table: Identity,
-        text: Identity,
-        comment: Option<String>,
-        names: &Names,
-    ) -> Tabled {
+    pub fn of(table: Identity, text: Identity, comment: Option<String>, names: &Names) -> Tabled {
         let signals = names.all().iter().cloned();
         let signals = signals.map(|(name, number)| Declared { number, name });
         Tabled {

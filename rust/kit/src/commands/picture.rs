@@ -2,14 +2,14 @@
 use super::Command;
 use crate::console::Console;
 use crate::engine::Engine;
-use crate::failure::{Outcome, DONE};
+use crate::failure::{Failure, Outcome, DONE};
 use crate::files;
 use crate::options::{Options, Spec};
-use crate::origin::Origin;
+use crate::origin::{self, Origin};
 use crate::output::{self, Kind, Output, FORCE};
 use crate::picture::{self, Scene};
 use crate::refusals;
-use crate::source;
+use crate::source::{self, Source};
 use crate::verdict::{self, Refused, Stopped};
 use crate::words;
 use std::path::Path;
@@ -35,23 +35,13 @@ fn run(options: &Options, console: &mut Console) -> Outcome {
     output.may_write(&OUTPUT, &inputs)?;
     let source = source::table(table, names)?;
     let bytes = files::read(record)?;
-    let stopped = |stopped: Stopped| match stopped {
-        Stopped::Refused(Refused::Table(refusal)) => {
-            refusals::table_failure(table, &source, refusal)
-        }
-        Stopped::Refused(Refused::Record(refusal)) => refusals::failure(record, refusal),
-        Stopped::Differ(difference) => difference.failure(&[table, record]),
-    };
-    let (mut engines, samples) = verdict::ready(engine, &source.table, &bytes).map_err(stopped)?;
-    let origin = Origin::of((table, &source), (record, &bytes))?;
-    let scene = Scene::of(&mut engines, &source.table, &origin.names, &samples)
-        .map_err(|unjudged| stopped(Stopped::by_table(unjudged)))?;
+    let (scene, alone) = scene(engine, (table, &source), (record, &bytes))?;
     output.write(&picture::draw(&scene), console)?;
     let (shown, line) = (output.shown(), scene.verdict.judgement);
-    let count = words::count(samples.len(), "sample");
-    let alone = match engines.engine() {
-        Engine::Plain => ", judged by the plain engine alone",
-        _ => "",
+    let count = words::count(scene.verdict.samples(), "sample");
+    let alone = match alone {
+        true => ", judged by the plain engine alone",
+        false => "",
     };
     let said = format!("{shown}: {line}, {count}{alone}\n");
     match output {
@@ -59,6 +49,37 @@ fn run(options: &Options, console: &mut Console) -> Outcome {
         Output::File { .. } => console.say(&said)?,
     }
     Ok(DONE)
+}
+
+/// What is drawn of a record by a table, and whether the plain engine judged alone.
+fn scene(
+    engine: Engine,
+    (table, source): (&Path, &Source),
+    (record, bytes): (&Path, &[u8]),
+) -> Result<(Scene, bool), Failure> {
+    let stopped = |stopped: Stopped| match stopped {
+        Stopped::Refused(Refused::Table(refusal)) => {
+            refusals::table_failure(table, source, refusal)
+        }
+        Stopped::Refused(Refused::Record(refusal)) => refusals::failure(record, refusal),
+        Stopped::Differ(difference) => difference.failure(&[table, record]),
+    };
+    let (mut engines, samples) = verdict::ready(engine, &source.table, bytes).map_err(stopped)?;
+    let origin = Origin::of((table, source), (record, bytes))?;
+    let scene = Scene::of(&mut engines, &source.table, &origin.names, &samples)
+        .map_err(|unjudged| stopped(Stopped::by_table(unjudged)))?;
+    // the times stand on the axis
+    let lines = origin.lines().into_iter();
+    let lines = lines.filter(|(label, _)| *label != origin::TIMES);
+    let scene = Scene {
+        comment: source.comment.clone(),
+        times: origin.times().to_vec(),
+        origin: lines
+            .map(|(label, words)| (label.to_string(), words))
+            .collect(),
+        ..scene
+    };
+    Ok((scene, engines.engine() == Engine::Plain))
 }
 
 /// What the command writes: a picture is its own by its second line.
@@ -70,7 +91,8 @@ const OUTPUT: Kind = Kind {
     own: |path| {
         let beginning = output::standing(path, files::MOST);
         let second = beginning.split(|byte| *byte == b'\n').nth(1);
-        second == Some(picture::MARK.as_bytes())
+        let written = format!("<!-- {} -->", picture::WRITTEN);
+        second == Some(written.as_bytes())
     },
     beside: None,
 };
@@ -83,26 +105,32 @@ the picture; it has no scripts and needs no other file.
 
 From top to bottom it shows
 
+  the title         the comment before the first word of the text, where the TABLE is a text
   the verdict       the program's line, what the level means, and the assertion
   the samples       a column each, from 0, and a dashed region for what comes after the record
+  the times         of the samples, where they are known: all that have room, as they were recorded
   the ticks         a row for each clock of the assertion, with a mark where it ticks
   the changes       a row for each rose(a) and fell(a), with an arrow where it is so
   the signals       a waveform each: all that have a name or that the assertion asks about
   the implications  a row for each |->, |=>, #-# and #=#, by its left side, with a disc where its
                     right side was asked from a sample at which it was reached, and a ring where it
                     was only reached
+  the bracket       from the sample at which the decisive part was asked to the one at which it
+                    closed; one that is open has no right end
   the levels        the level at the start and after each sample, as a bar with its digit
   the legend        what the bars and the marks mean
+  the origin        what the picture is made of, where that is known
 
-A flag marks the sample at which the level closed: a 3 or a 0 stays, whatever comes next. Without a
-flag the level is open at the end of the record.
+A flag marks the sample at which the level closed, with its time: a 3 or a 0 stays, whatever comes
+next. Without a flag the level is open at the end of the record.
 
   TABLE             a .svt file, or a text whose name ends in .txt
   RECORD            a .svw file of at most 63 samples
-  --names FILE.txt  a text that declares the signals' names, for a .svt, as for kit judge
+  --names FILE.txt  a text that declares the signals' names, for a .svt, as for kit judge. Its comment
+                    is no title, since it is not what is judged
   --engine WHICH    both, which is the default, fast or plain, as for kit judge. Where the plain
-                    engine judges alone there are no rows for |-> and no decisive part, and the
-                    picture and the line say so
+                    engine judges alone there are no rows for |->, no decisive part and no bracket,
+                    and the picture and the line say so
   -o FILE.svg       where the picture goes; - is standard output, and then the line goes to standard
                     error. A file that is there already is written over only where kit picture wrote
                     it

@@ -1,12 +1,15 @@
 //! The axis of the samples, the lines between their columns, and the frame of the tail.
-use super::layout::{baseline, Across, Layout, AXIS_APART, LONGEST_NAME, NO_SAMPLES, START};
+use super::layout::{
+    baseline, Across, Layout, AXIS_APART, AXIS_ROW, LONGEST_NAME, NO_SAMPLES, START,
+};
 use super::scene::Scene;
 use super::style::{Style, AXIS, FRAME, GREY, GRID, NAME, PALE};
 use super::svg::Svg;
 use super::text::room;
+use super::times;
 
 /// How a row's name on the axis looks.
-const AXIS_NAME: Style = Style { fill: GREY, ..NAME };
+pub const AXIS_NAME: Style = Style { fill: GREY, ..NAME };
 
 /// The samples from one number to the next: every sample where there is room, else every 5th.
 pub fn numbered(column: i32) -> usize {
@@ -54,8 +57,7 @@ pub fn draw_ground(svg: &mut Svg, scene: &Scene, layout: &Layout) {
 
 /// Draws the axis, and once more above the levels where there are many rows.
 pub fn draw(svg: &mut Svg, scene: &Scene, layout: &Layout) {
-    let tops = [Some(layout.down.axis), layout.down.second_axis];
-    for top in tops.into_iter().flatten() {
+    for top in layout.down.axes() {
         svg.open("g", &[("class", &"axis")]);
         draw_row(
             svg,
@@ -63,6 +65,7 @@ pub fn draw(svg: &mut Svg, scene: &Scene, layout: &Layout) {
             &layout.across,
             top + baseline::AXIS,
         );
+        times::draw(svg, scene, &layout.across, top + AXIS_ROW);
         svg.close();
     }
 }

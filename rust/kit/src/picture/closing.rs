@@ -1,8 +1,9 @@
 //! The closing mark: the column after which the level is closed, a line at its left border and a flag.
-use super::layout::{baseline, flag_width, Layout, FLAG_SIZE};
+use super::layout::{baseline, flag_width, Layout, FLAG_SIZE, TIME_ROW};
 use super::scene::Scene;
 use super::style::{DARK, FLAG, TINT};
 use super::svg::Svg;
+use super::times;
 
 /// Tints the column, which lies below all else.
 pub fn draw_ground(svg: &mut Svg, scene: &Scene, layout: &Layout) {
@@ -29,11 +30,12 @@ pub fn draw(svg: &mut Svg, scene: &Scene, layout: &Layout) {
     let Some(closed) = scene.verdict.closed() else {
         return;
     };
-    let words = words(closed);
+    let words = words(scene, closed);
     let x = layout.across.left(closed);
     let y = layout.down.flag;
     svg.open("g", &[("class", &"closing")]);
-    draw_pole(svg, x, (y, layout.down.levels_end()));
+    let times = times::in_the_way(scene, layout, x);
+    draw_pole(svg, x, (y, layout.down.levels_end()), &times);
     let (width, right) = (flag_width(&words), layout.across.end);
     let left = if x + width <= right { x } else { x - width };
     svg.leaf(
@@ -50,13 +52,15 @@ pub fn draw(svg: &mut Svg, scene: &Scene, layout: &Layout) {
     svg.close();
 }
 
-/// Draws the line that the flag hangs at.
-fn draw_pole(svg: &mut Svg, x: i32, (top, end): (i32, i32)) {
+/// Draws the line that the flag hangs at, with a gap where a row of times is in its way.
+fn draw_pole(svg: &mut Svg, x: i32, (top, end): (i32, i32), times: &[i32]) {
+    let gap = |row: &i32| format!("V{row}M{x} {}", row + TIME_ROW);
+    let gaps: String = times.iter().map(gap).collect();
     svg.leaf(
         "path",
         &[
             ("class", &"pole"),
-            ("d", &format!("M{x} {top}V{end}")),
+            ("d", &format!("M{x} {top}{gaps}V{end}")),
             ("stroke", &DARK),
             ("stroke-width", &2),
         ],
@@ -69,7 +73,8 @@ pub fn draw_mark(svg: &mut Svg, x: i32, y: i32) {
     svg.leaf("path", &[("d", &flag), ("fill", &DARK)]);
 }
 
-/// What the flag says.
-pub fn words(closed: usize) -> String {
-    format!("closed at sample {closed}")
+/// What the flag says: the sample at which the level closed, and its time where it is known.
+pub fn words(scene: &Scene, closed: usize) -> String {
+    let time = times::shown(scene, closed).map_or(String::new(), |time| format!(", {time}"));
+    format!("closed at sample {closed}{time}")
 }

@@ -1,13 +1,18 @@
 //! Where everything stands, in pixels from the upper left corner.
 //!
 //! From left to right: the rows' names, a column for the start, one for each sample, and the tail.
-//! From top to bottom: the heading, the flag where the level is closed, the axis, a row for each
-//! clock, for what rises or falls, for each signal and for each `|->`, the axis once more where there are
-//! many rows, the levels, the legend.
+//! From top to bottom: the heading, the flag where the level is closed, the axis with the times, a row for
+//! each clock, for what rises or falls, for each signal and for each `|->`, the mark of the decisive part,
+//! the axis once more where there are many rows, the levels, the legend, the origin.
+mod across;
+mod down;
+
 use super::scene::Scene;
-use super::style::{ASSERTION, FLAG, NAME};
-use super::text::{cells, room, shorten, wrap};
-use super::{heading, legend};
+use super::style::FLAG;
+use super::text::{cells, room, wrap};
+use super::{heading, legend, origin};
+pub use across::Across;
+pub use down::Down;
 
 /// The white space around the picture.
 pub const MARGIN: i32 = 16;
@@ -27,7 +32,11 @@ pub const SHARED: i32 = 720;
 pub const NO_SAMPLES: i32 = 96;
 /// The narrowest tail.
 pub const TAIL: i32 = 112;
-/// The baseline of the program's line.
+/// A line of the comment.
+pub const COMMENT_LINE: i32 = 19;
+/// The space between the comment and the program's line.
+pub const COMMENT_APART: i32 = 6;
+/// The baseline of the program's line where there is no comment.
 pub const FIRST_BASELINE: i32 = MARGIN + 16;
 /// From one line of the heading to the next.
 pub const HEADING_LINE: i32 = 22;
@@ -43,6 +52,12 @@ pub const FLAG_SIZE: (i32, i32) = (18, 12);
 pub const AXIS_ROW: i32 = 20;
 /// The least space between two numbers of the axis.
 pub const AXIS_APART: i32 = 6;
+/// The row of the times, below the axis.
+pub const TIME_ROW: i32 = 18;
+/// The least space between two times, which have blanks in them.
+pub const TIME_APART: i32 = 14;
+/// The most cells of a time.
+pub const LONGEST_TIME: usize = 28;
 /// The row of a clock.
 pub const CLOCK_ROW: i32 = 24;
 /// Half the width of a tick's mark, its height, and its distance from the upper end of its row.
@@ -60,6 +75,13 @@ pub const SIGNAL: (i32, i32) = (6, 24);
 pub const IMPLICATION_ROW: i32 = 24;
 /// The radius of the mark of a `|->` that was asked, and of one that was only reached.
 pub const ASKED_MARK: (i32, i32) = (5, 3);
+/// The row of the decisive part's mark.
+pub const SPAN_ROW: i32 = 36;
+/// Where that mark begins, has its line, and ends in its row.
+pub const SPAN: (i32, i32, i32) = (8, 13, 18);
+/// The space between the mark and the borders of its columns, and between its words and the line of the
+/// flag.
+pub const SPAN_EDGE: (i32, i32) = (4, 6);
 /// The rows from which on the axis stands above the levels too.
 pub const MANY_ROWS: usize = 16;
 /// What the bar of a level is higher than that of the level below it; level 0 is as high.
@@ -74,17 +96,27 @@ pub const LEGEND_LINE: i32 = 20;
 pub const SWATCH: (i32, i32) = (20, 12);
 /// The space between two entries of the legend.
 pub const LEGEND_APART: i32 = 18;
+/// A line of the origin.
+pub const ORIGIN_LINE: i32 = 14;
+/// The space between the legend and the origin.
+pub const ORIGIN_APART: i32 = 8;
+/// The most cells of a label of the origin.
+pub const LONGEST_LABEL: usize = 12;
 /// The space between two parts of the picture.
 pub const BREAK: i32 = 12;
 
 /// The distance of the baselines from the upper ends of their rows.
 pub mod baseline {
+    /// A line of the comment.
+    pub const COMMENT: i32 = 13;
     /// A line of the assertion.
     pub const ASSERTION: i32 = 13;
     /// The flag.
     pub const FLAG: i32 = 13;
     /// The axis.
     pub const AXIS: i32 = 13;
+    /// The times.
+    pub const TIME: i32 = 11;
     /// A clock.
     pub const CLOCK: i32 = 16;
     /// What rises or falls.
@@ -93,160 +125,29 @@ pub mod baseline {
     pub const SIGNAL: i32 = 19;
     /// A `|->`.
     pub const IMPLICATION: i32 = 16;
+    /// The name of the decisive part's mark.
+    pub const SPAN: i32 = 17;
+    /// The words of that mark.
+    pub const SPAN_WORDS: i32 = 30;
     /// The digits of the levels.
     pub const DIGIT: i32 = 15;
     /// A line of the legend.
     pub const LEGEND: i32 = 14;
+    /// A line of the origin.
+    pub const ORIGIN: i32 = 10;
 }
 
-/// Where the columns stand.
-#[derive(Clone, Debug, PartialEq, Eq)]
-pub struct Across {
-    /// The right end of the rows' names.
-    pub names: i32,
-    /// The left border of the start.
-    pub start: i32,
-    /// The left border of sample 0.
-    pub origin: i32,
-    /// The width of a sample's column, an even number.
-    pub column: i32,
-    /// The left border of the tail.
-    pub tail: i32,
-    /// The right border of the tail.
-    pub end: i32,
-    /// The width of the picture.
-    pub width: i32,
-}
-
-impl Across {
-    /// The columns of a scene.
-    pub fn of(scene: &Scene) -> Across {
-        let longest = row_names(scene).map(|name| cells(&shorten(&name, LONGEST_NAME)));
-        let names = MARGIN + room(longest.max().unwrap_or_default(), NAME.size);
-        let start = names + GAP;
-        let origin = start + START;
-        let samples = whole(scene.verdict.samples());
-        let (widest, narrowest) = COLUMNS;
-        let column = (SHARED / samples.max(1)).clamp(narrowest, widest) / 2 * 2;
-        let tail = match samples {
-            0 => origin + NO_SAMPLES,
-            _ => origin + samples * column,
-        };
-        let width = NARROWEST.max(tail + TAIL + MARGIN);
-        Across {
-            names,
-            start,
-            origin,
-            column,
-            tail,
-            end: width - MARGIN,
-            width,
-        }
-    }
-
-    /// The left border of a sample's column.
-    pub fn left(&self, sample: usize) -> i32 {
-        self.origin + whole(sample) * self.column
-    }
-
-    /// The middle of a sample's column.
-    pub fn middle(&self, sample: usize) -> i32 {
-        self.left(sample) + self.column / 2
-    }
-
-    /// The left border and the width of the column that shows the level after so many samples: the
-    /// start's, or that of the last of them.
-    pub fn after(&self, samples: usize) -> (i32, i32) {
-        match samples.checked_sub(1) {
-            None => (self.start, START),
-            Some(last) => (self.left(last), self.column),
-        }
-    }
-
-    /// The middle of the tail.
-    pub fn tail_middle(&self) -> i32 {
-        (self.tail + self.end) / 2
-    }
-
-    /// The cells that a line of the assertion has room for.
-    pub fn line_cells(&self) -> usize {
-        let room = self.width - 2 * MARGIN - 2 * ASSERTION_EDGE;
-        usize::try_from(room * 10 / (ASSERTION.size * 6)).unwrap_or_default()
-    }
-}
-
-/// Where the rows stand: the upper end of each part.
-#[derive(Clone, Debug, PartialEq, Eq)]
-pub struct Down {
-    /// The assertion's lines.
-    pub assertion: i32,
-    /// The flag, where the level is closed.
-    pub flag: i32,
-    /// The axis.
-    pub axis: i32,
-    /// The clocks.
-    pub clocks: i32,
-    /// What rises and falls.
-    pub changes: i32,
-    /// The signals.
-    pub signals: i32,
-    /// The implications.
-    pub implications: i32,
-    /// The lower end of all these rows.
-    pub rows_end: i32,
-    /// The axis once more, where there are many rows.
-    pub second_axis: Option<i32>,
-    /// The bars of the levels.
-    pub levels: i32,
-    /// The lower end of the bars, where their digits begin.
-    pub digits: i32,
+/// How many lines of text the parts of a picture have.
+#[derive(Clone, Copy, Debug, PartialEq, Eq)]
+pub struct Lines {
+    /// The comment.
+    pub comment: usize,
+    /// The assertion, with the decisive part.
+    pub assertion: usize,
     /// The legend.
-    pub legend: i32,
-    /// The height of the picture.
-    pub height: i32,
-}
-
-impl Down {
-    /// The rows of a scene whose assertion, with the decisive part, and legend have so many lines.
-    fn of(scene: &Scene, assertion_lines: usize, legend_lines: usize) -> Down {
-        let (clock_rows, change_rows) = (scene.clocks.len(), scene.changes.len());
-        let (signal_rows, implication_rows) = (scene.signals.len(), scene.implications.len());
-        let assertion = heading::end(scene) + BREAK;
-        let flag = assertion + assertion_height(assertion_lines) + BREAK;
-        let closed = scene.verdict.closed().is_some();
-        let axis = flag + if closed { FLAG_ROW } else { 0 };
-        let clocks = axis + AXIS_ROW;
-        let changes = clocks + whole(clock_rows) * CLOCK_ROW;
-        let signals = changes + whole(change_rows) * CHANGE_ROW;
-        let implications = signals + whole(signal_rows) * SIGNAL_ROW;
-        let rows_end = implications + whole(implication_rows) * IMPLICATION_ROW;
-        let many = clock_rows + change_rows + signal_rows + implication_rows > MANY_ROWS;
-        let second_axis = many.then_some(rows_end);
-        let levels = rows_end + if many { AXIS_ROW } else { BREAK };
-        let digits = levels + 4 * STEP;
-        let legend = digits + DIGIT_ROW + BREAK;
-        let height = legend + whole(legend_lines) * LEGEND_LINE + MARGIN;
-        Down {
-            assertion,
-            flag,
-            axis,
-            clocks,
-            changes,
-            signals,
-            implications,
-            rows_end,
-            second_axis,
-            levels,
-            digits,
-            legend,
-            height,
-        }
-    }
-
-    /// The lower end of the levels.
-    pub fn levels_end(&self) -> i32 {
-        self.digits + DIGIT_ROW
-    }
+    pub legend: usize,
+    /// The origin.
+    pub origin: usize,
 }
 
 /// Where everything stands.
@@ -256,10 +157,14 @@ pub struct Layout {
     pub across: Across,
     /// The rows.
     pub down: Down,
+    /// The lines of the comment.
+    pub comment: Vec<String>,
     /// The lines of the assertion.
     pub assertion: Vec<String>,
     /// The lines of the decisive part.
     pub decisive: Vec<String>,
+    /// The lines of the origin: a label, which is empty where the words of one go on, and words.
+    pub origin: Vec<(String, String)>,
 }
 
 impl Layout {
@@ -268,19 +173,33 @@ impl Layout {
         let across = Across::of(scene);
         let lines = |text: &str| match text {
             "" => Vec::new(),
-            _ => heading::bounded(wrap(text, across.line_cells())),
+            _ => heading::bounded(wrap(text, across.line_cells()), heading::MOST_LINES),
         };
         let (assertion, decisive) = (lines(&scene.assertion), lines(&scene.decisive));
-        let legend_lines = legend::lines(scene, across.width).len();
-        let down = Down::of(scene, assertion.len() + decisive.len(), legend_lines);
+        let comment = heading::comment(scene, &across);
+        let origin = origin::lines(scene, &across);
+        let down = Down::of(
+            scene,
+            &Lines {
+                comment: comment.len(),
+                assertion: assertion.len() + decisive.len(),
+                legend: legend::lines(scene, across.width).len(),
+                origin: origin.len(),
+            },
+        );
         Layout {
             across,
             down,
+            comment,
             assertion,
             decisive,
+            origin,
         }
     }
 }
+
+/// What the row of the decisive part's mark is called.
+pub const SPAN_NAME: &str = "decisive";
 
 /// The names at the left of the rows.
 fn row_names(scene: &Scene) -> impl Iterator<Item = String> + '_ {
@@ -289,7 +208,8 @@ fn row_names(scene: &Scene) -> impl Iterator<Item = String> + '_ {
     let plain = changes.chain(&scene.signals);
     let plain = plain.map(|trace| trace.name.clone());
     let implications = scene.implications.iter().map(|row| row.name.clone());
-    let all = clocks.chain(plain).chain(implications);
+    let span = scene.span.iter().map(|_| SPAN_NAME.to_string());
+    let all = clocks.chain(plain).chain(implications).chain(span);
     all.chain(["sample".to_string()])
 }
 

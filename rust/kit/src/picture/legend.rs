@@ -4,7 +4,7 @@ use super::scene::Scene;
 use super::style::{KEY, LEGEND};
 use super::svg::Svg;
 use super::text::{cells, room};
-use super::{closing, implications, levels, ticks};
+use super::{closing, implications, levels, span, ticks};
 use xistomar::Level;
 
 /// An entry of the legend.
@@ -20,6 +20,11 @@ pub enum Entry {
     Asked,
     /// The mark of one at which the implication was only reached.
     Reached,
+    /// The mark of the decisive part.
+    Decisive {
+        /// Whether it is open.
+        open: bool,
+    },
 }
 
 /// The entries of the upper line.
@@ -32,8 +37,8 @@ const LOWER: [Entry; 4] = [
     Entry::Closing,
 ];
 
-/// The entries of the last line, for the rows of `|->`.
-const LAST: [Entry; 2] = [Entry::Asked, Entry::Reached];
+/// The entries for the rows of `|->`.
+const IMPLICATIONS: [Entry; 2] = [Entry::Asked, Entry::Reached];
 
 impl Entry {
     fn words(self) -> &'static str {
@@ -43,6 +48,8 @@ impl Entry {
             Entry::Closing => "level closed",
             Entry::Asked => "right side asked",
             Entry::Reached => "implication only reached",
+            Entry::Decisive { open: false } => "decisive part, asked to closed",
+            Entry::Decisive { open: true } => "decisive part, still open",
         }
     }
 
@@ -50,6 +57,7 @@ impl Entry {
     fn indent(self) -> i32 {
         match self {
             Entry::Level(_) => SWATCH.0 + 18,
+            Entry::Decisive { .. } => 18,
             Entry::Tick | Entry::Closing | Entry::Asked | Entry::Reached => 16,
         }
     }
@@ -60,7 +68,7 @@ impl Entry {
 }
 
 /// The lines of the legend in a picture of this width: the levels and marks in one where there is room, else
-/// in two, and those of the rows of `|->` in one of their own.
+/// in two, and those of the rows of `|->` and of the decisive part's in one of their own.
 pub fn lines(scene: &Scene, width: i32) -> Vec<Vec<Entry>> {
     let all = [&UPPER[..], &LOWER[..]].concat();
     let taken: i32 = all.iter().map(|entry| entry.width() + LEGEND_APART).sum();
@@ -68,10 +76,19 @@ pub fn lines(scene: &Scene, width: i32) -> Vec<Vec<Entry>> {
         true => vec![all],
         false => vec![UPPER.to_vec(), LOWER.to_vec()],
     };
-    if !scene.implications.is_empty() {
-        lines.push(LAST.to_vec());
-    }
+    lines.extend(Some(last(scene)).filter(|last| !last.is_empty()));
     lines
+}
+
+/// The entries of the last line, for the rows that are there.
+fn last(scene: &Scene) -> Vec<Entry> {
+    let implications = IMPLICATIONS
+        .into_iter()
+        .filter(|_| !scene.implications.is_empty());
+    let decisive = scene.span.iter().map(|span| Entry::Decisive {
+        open: span.closed.is_none(),
+    });
+    implications.chain(decisive).collect()
 }
 
 /// Draws the legend.
@@ -101,6 +118,7 @@ fn draw_entry(svg: &mut Svg, entry: Entry, left: i32, top: i32) {
         Entry::Closing => closing::draw_mark(svg, left, top + 3),
         Entry::Asked => implications::draw_asked(svg, left + 5, top + 10),
         Entry::Reached => implications::draw_reached(svg, left + 5, top + 10),
+        Entry::Decisive { open } => span::draw_mark(svg, open, left + 1, top + 5),
     }
     svg.words(&LEGEND, (left + entry.indent(), baseline), entry.words());
 }

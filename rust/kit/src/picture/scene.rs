@@ -6,7 +6,7 @@ use crate::notation;
 use crate::verdict::{
     self, implication_words, part_words, unexplained_words, Account, Implication, Verdict,
 };
-use xistomar::Refusal;
+use xistomar::{Level, Refusal};
 
 /// A row of the picture: what it is called, and at which samples it is 1.
 #[derive(Clone, Debug, PartialEq, Eq)]
@@ -39,13 +39,30 @@ pub struct ImplicationRow {
     pub at_end: bool,
 }
 
+/// The samples over which the decisive part was asked.
+#[derive(Clone, Copy, Debug, PartialEq, Eq)]
+pub struct Span {
+    /// The sample from which it was asked; the number of samples where that is still to come.
+    pub from: usize,
+    /// The sample at which it closed; none where it is open.
+    pub closed: Option<usize>,
+    /// What came of it there: `broken`, `matched` or `held`.
+    pub came: &'static str,
+}
+
 /// What a picture shows.
 #[derive(Clone, Debug, PartialEq, Eq)]
 pub struct Scene {
+    /// The comment at the head of the assertion's text, which is the picture's title.
+    pub comment: Option<String>,
     /// The assertion in the notation.
     pub assertion: String,
     /// Which part was decisive, or why that is not told, in words.
     pub decisive: String,
+    /// From where to where it was asked; none where that is not told.
+    pub span: Option<Span>,
+    /// The time of each sample, such as `15 ns`; empty where it is not known.
+    pub times: Vec<String>,
     /// The clocks and where they tick.
     pub clocks: Vec<Trace>,
     /// What the assertion asks to rise or fall, but for what is a clock.
@@ -62,10 +79,13 @@ pub struct Scene {
     pub implications: Vec<ImplicationRow>,
     /// The levels.
     pub verdict: Verdict,
+    /// What the picture is made of: a label and words each, such as `table` and its file's name.
+    pub origin: Vec<(String, String)>,
 }
 
 impl Scene {
-    /// Asks the engines about a table and samples.
+    /// Asks the engines about a table and samples. Comment, times and origin are left empty: they are not
+    /// in these.
     pub fn of(
         engines: &mut Engines,
         table: &[u8],
@@ -94,7 +114,10 @@ impl Scene {
         let implications = explained.flat_map(|explained| &explained.implications);
         let implications = implications.map(|implication| row(implication, samples.len()));
         Ok(Scene {
+            comment: None,
             decisive: why(&account),
+            span: span(&account),
+            times: Vec::new(),
             tested: implication_words(&account),
             asked: account.judged().asked,
             signs: account.signs,
@@ -108,8 +131,35 @@ impl Scene {
             changes: changing(&assertion).map(change).collect::<Result<_, _>>()?,
             signals: shown(&assertion, names).into_iter().map(signal).collect(),
             verdict: account.verdict,
+            origin: Vec::new(),
         })
     }
+
+    /// The time of a sample, where it is known.
+    pub fn time(&self, sample: usize) -> Option<&str> {
+        let time = self.times.get(sample).map(String::as_str);
+        time.filter(|time| !time.is_empty())
+    }
+
+    /// Whether the time of any sample is known.
+    pub fn timed(&self) -> bool {
+        (0..self.verdict.samples()).any(|sample| self.time(sample).is_some())
+    }
+}
+
+/// From where to where the decisive part was asked, and what came of it.
+fn span(account: &Account) -> Option<Span> {
+    let decisive = account.explained.as_ref()?.decisive;
+    let came = match (decisive.level, decisive.matched) {
+        (_, Some(_)) => "matched",
+        (Level::Broken, _) => "broken",
+        _ => "held",
+    };
+    Some(Span {
+        from: decisive.from,
+        closed: decisive.closed,
+        came,
+    })
 }
 
 /// The decisive part in words, or why it is not told.

@@ -52,6 +52,12 @@ const SANS: Style = Style {
     ..MONO
 };
 
+/// The comment at the head of the assertion's text.
+pub const COMMENT: Style = Style {
+    class: "comment",
+    size: 14,
+    ..SANS
+};
 /// The program's line.
 pub const LINE: Style = Style {
     class: "line",
@@ -83,6 +89,11 @@ pub const AXIS: Style = Style {
     fill: GREY,
     ..MONO
 };
+/// The time of a sample.
+pub const TIME: Style = Style {
+    class: "time",
+    ..AXIS
+};
 /// The name of a row.
 pub const NAME: Style = Style {
     class: "name",
@@ -95,6 +106,12 @@ pub const UNKNOWN: Style = Style {
     anchor: "middle",
     fill: GREY,
     ..MONO
+};
+/// The words of the decisive part's mark.
+pub const SPAN_WORDS: Style = Style {
+    class: "span",
+    size: 11,
+    ..SANS
 };
 /// The digit of a level in its cell.
 pub const DIGIT: Style = Style {
@@ -130,6 +147,14 @@ pub const LEGEND: Style = Style {
     class: "legend",
     size: 11,
     ..SANS
+};
+
+/// What the picture is made of.
+pub const ORIGIN: Style = Style {
+    class: "origin",
+    size: 10,
+    fill: GREY,
+    ..MONO
 };
 
 /// The colour of a level's frame, which shows where its bar ends and the next begins.

@@ -20,16 +20,16 @@ impl Svg {
         self.open.push(tag);
     }
 
-    /// A comment on a line of its own.
-    pub fn comment(&mut self, comment: &str) {
-        self.put(format_args!("{comment}\n"));
-    }
-
     /// Ends the element that was opened last.
     pub fn close(&mut self) {
         if let Some(tag) = self.open.pop() {
             self.put(format_args!("</{tag}>\n"));
         }
+    }
+
+    /// A comment, for programs that read the picture. It has no `--`.
+    pub fn comment(&mut self, text: &str) {
+        self.put(format_args!("<!-- {text} -->\n"));
     }
 
     /// An element that holds nothing.

@@ -17,10 +17,35 @@ fn a_picture_is_written_and_its_level_is_said() {
     assert_eq!((ran.status, ran.out, ran.err.as_str()), (0, line, ""));
     let svg = fs::read_to_string(&output).unwrap();
     assert!(svg.starts_with("<svg xmlns=\"http://www.w3.org/2000/svg\" "));
+    assert_eq!(svg.lines().nth(1), Some("<!-- written by kit picture -->"));
     assert!(svg.ends_with("</svg>\n"));
     let ran = pictured(&example("p1.svt"), &example("p1.svw"), &output);
     assert_eq!(ran.status, 0);
     assert!(ran.out.ends_with(": level 1 tested yes, 1 sample\n"));
+}
+
+#[test]
+fn the_comment_of_the_text_that_is_judged_is_the_title() {
+    let folder = Folder::new();
+    let output = folder.path("x.svg");
+    let text = "// One,\r\n//\r\n// and two.\r\nsignals a b // three\r\nstrong(a ##1 b)\r\n";
+    let text = folder.file("text.txt", text);
+    let record = example("p1.svw");
+    let written = |args: &[&str]| {
+        let ran = kit([&["picture", "-o", &output], args].concat());
+        assert_eq!((ran.status, ran.err.as_str()), (0, ""));
+        fs::read_to_string(&output).unwrap()
+    };
+    let svg = written(&[&text, &record]);
+    assert!(svg.contains(">One, and two.</text>"), "{svg}");
+    assert!(
+        svg.contains("still waiting. One, and two.</title>"),
+        "{svg}"
+    );
+    assert!(!svg.contains("three"), "{svg}");
+    // a text that only names the signals is not what is judged
+    let svg = written(&[&example("p1.svt"), &record, "--names", &text]);
+    assert!(!svg.contains("One"), "{svg}");
 }
 
 #[test]

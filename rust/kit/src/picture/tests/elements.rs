@@ -32,6 +32,9 @@ pub fn elements(svg: &str) -> Result<Vec<Element>, String> {
         let (tag, more) = more.split_once('>').ok_or("a tag is not ended")?;
         rest = more;
         add_text(text, &mut found, &open)?;
+        if is_comment(tag)? {
+            continue;
+        }
         if let Some(name) = tag.strip_prefix('/') {
             let last = open.pop().ok_or(format!("</{name}> ends nothing"))?;
             if found[last].tag != name {
@@ -58,6 +61,20 @@ pub fn elements(svg: &str) -> Result<Vec<Element>, String> {
     match open.is_empty() && rest.trim().is_empty() && !found.is_empty() {
         true => Ok(found),
         false => Err("something is left open, or text follows".to_string()),
+    }
+}
+
+/// Whether a tag is a comment. Its text has no `--` and no `>`.
+fn is_comment(tag: &str) -> Result<bool, String> {
+    let Some(inner) = tag.strip_prefix("!--") else {
+        return Ok(false);
+    };
+    match inner
+        .strip_suffix("--")
+        .is_some_and(|text| !text.contains("--"))
+    {
+        true => Ok(true),
+        false => Err(format!("<{tag}> is no comment")),
     }
 }
 
@@ -179,11 +196,14 @@ fn the_reader_refuses_what_is_not_well_formed() {
         "<a/>text",
         "<a",
         "<a><b></a></b>",
+        "<a><!-- b --c --></a>",
+        "<a><!-- b ></a>",
+        "<a><!b></a>",
     ];
     for text in bad {
         assert!(elements(text).is_err(), "{text:?}");
     }
-    let good = elements("<a b=\"1 &lt; 2\"><c/>x &amp; y</a>\n").unwrap();
+    let good = elements("<a b=\"1 &lt; 2\"><!-- c --><c/>x &amp; y</a>\n").unwrap();
     assert_eq!(good[0].get("b"), "1 < 2");
     assert_eq!(good[0].text, "x & y");
     assert_eq!(good[1].tag, "c");

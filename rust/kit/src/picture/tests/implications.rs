@@ -62,7 +62,9 @@ fn a_disc_stands_where_the_right_side_is_asked() {
 fn a_row_is_called_by_its_left_side() {
     let names = Names::of(&["ack", "drop", "strobe"]);
     let drawn = drawn(&scene_of(FLUSH, &names, &[0]));
-    let rows = ["sample", "ack", "drop", "strobe", "ack |->", "level"];
+    let rows = [
+        "sample", "ack", "drop", "strobe", "ack |->", "decisive", "level",
+    ];
     assert_eq!(texts(&drawn, "name"), rows);
 }
 

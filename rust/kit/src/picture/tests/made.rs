@@ -93,6 +93,26 @@ fn odd_names(random: &mut Random) -> Names {
     names
 }
 
+/// Words of every length, with the same characters, at most so many.
+fn odd_words(random: &mut Random, most: usize) -> String {
+    let pieces = [
+        "a",
+        "15 ns",
+        "<&>",
+        "-->",
+        "\"'",
+        "\u{1}\u{fffe}",
+        "写入é",
+        "",
+        "\t",
+        "0.5",
+    ];
+    let length = random.pick(&[1, 8, 70]);
+    let word = |random: &mut Random| random.pick(&pieces).repeat(random.below(length + 1));
+    let words: Vec<String> = (0..random.below(most + 1)).map(|_| word(random)).collect();
+    words.join(" ")
+}
+
 #[test]
 fn every_picture_is_well_formed_stands_alone_and_fits() {
     let mut random = Random(1);
@@ -101,7 +121,11 @@ fn every_picture_is_well_formed_stands_alone_and_fits() {
         let table = accepted(&mut random);
         let count = [0, 1, 5, 63, random.below(64)][round % 5];
         let samples: Vec<u64> = (0..count).map(|_| random.next()).collect();
-        let scene = scene_of(&table, &odd_names(&mut random), &samples);
+        let mut scene = scene_of(&table, &odd_names(&mut random), &samples);
+        scene.comment = Some(odd_words(&mut random, 300));
+        scene.times = samples.iter().map(|_| odd_words(&mut random, 2)).collect();
+        let mut entry = || (odd_words(&mut random, 2), odd_words(&mut random, 20));
+        scene.origin = (0..round % 4).map(|_| entry()).collect();
         let drawn = elements(&draw(&scene)).unwrap();
         assert_eq!(stands_alone(&drawn), Ok(()));
         assert_eq!(words_fit(&drawn), Ok(()));

@@ -1,9 +1,13 @@
 //! Tests of the pictures, read back as elements.
 mod bands;
 mod changes;
+mod comment;
 mod elements;
 mod implications;
 mod made;
+mod origin;
+mod span;
+mod times;
 mod words;
 
 use super::{draw, Scene};
@@ -29,12 +33,13 @@ fn scene_of(table: &[u8], names: &Names, samples: &[u64]) -> Scene {
 }
 
 /// The scene of a table whose signals 0, 1, .. have these names. Its assertion takes one line, its
-/// decisive part none, its clocks are called c, d, .. and its implications p, q, .. so that the layout does
+/// decisive part none and has no mark, its clocks are called c, d, .. and its implications p, q, .. so that the layout does
 /// not depend on the notation.
 fn scene(table: &[u8], list: &[&str], samples: &[u64]) -> Scene {
     let mut scene = scene_of(table, &Names::of(list), samples);
     scene.assertion = "the assertion".to_string();
     scene.decisive = String::new();
+    scene.span = None;
     for (clock, name) in scene.clocks.iter_mut().zip('c'..) {
         clock.name = name.to_string();
     }

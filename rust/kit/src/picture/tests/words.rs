@@ -63,6 +63,30 @@ fn who_hears_the_picture_hears_the_verdict() {
 }
 
 #[test]
+fn who_hears_the_picture_hears_the_times_the_mark_and_the_origin() {
+    let mut scene = scene_of(FLUSH, &Names::of(&["ack", "drop", "strobe"]), &[0, 1, 2]);
+    scene.times = ["5 ns", "", "25 ns"].map(String::from).to_vec();
+    scene.origin = vec![("kit".to_string(), "0.2.0".to_string())];
+    let drawn = drawn(&scene);
+    let description = drawn.iter().find(|e| e.get("id") == "kit-words").unwrap();
+    let end = "Samples: 3. Times of the samples: 5 ns, not known, 25 ns. Level at the start and after each \
+               sample: 2 2 1 0; closed at sample 2, 25 ns. Mark of the decisive part: asked at 1, broken at \
+               2 (25 ns). kit: 0.2.0.";
+    assert!(description.text.ends_with(end), "{}", description.text);
+}
+
+#[test]
+fn the_second_line_says_who_wrote_it() {
+    for scene in [flush(&[]), flush(&[0, 1, 2])] {
+        let svg = draw(&scene);
+        let lines: Vec<&str> = svg.lines().take(3).collect();
+        assert!(lines[0].starts_with("<svg ") && lines[0].ends_with('>'));
+        assert_eq!(lines[1], "<!-- written by kit picture -->");
+        assert!(lines[2].starts_with("<title "));
+    }
+}
+
+#[test]
 fn the_legend_has_the_levels_and_the_marks() {
     let drawn = drawn(&flush(&[]));
     assert_eq!(texts(&drawn, "key"), ["3", "2", "1", "0"]);
@@ -185,17 +209,13 @@ fn extent(text: &Element) -> [f64; 4] {
 /// Asks that every text lies in the picture and that no two overlap.
 pub fn words_fit(drawn: &[Element]) -> Result<(), String> {
     let (width, height) = (drawn[0].number("width"), drawn[0].number("height"));
-    let texts: Vec<&Element> = drawn
-        .iter()
-        .filter(|element| element.tag == "text")
-        .collect();
-    for (index, text) in texts.iter().enumerate() {
-        let [left, right, top, bottom] = extent(text);
-        if left < 0.0 || top < 0.0 || right > width || bottom > height {
+    let texts = drawn.iter().filter(|element| element.tag == "text");
+    let texts: Vec<(&Element, [f64; 4])> = texts.map(|text| (text, extent(text))).collect();
+    for (index, (text, [left, right, top, bottom])) in texts.iter().enumerate() {
+        if *left < 0.0 || *top < 0.0 || *right > width || *bottom > height {
             return Err(format!("{:?} lies outside", text.text));
         }
-        for other in &texts[..index] {
-            let [l, r, t, b] = extent(other);
+        for (other, [l, r, t, b]) in &texts[..index] {
             if left < r && l < right && top < b && t < bottom {
                 return Err(format!("{:?} and {:?} overlap", text.text, other.text));
             }
