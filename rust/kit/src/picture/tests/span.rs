@@ -1,7 +1,7 @@
 //! The mark of the decisive part. With the row `decisive`, which has 8 cells of 7.2, the names of the flush
 //! end at 16 + 58 = 74, the start begins at 84 and sample 0 at 132; 3 samples have columns of 80.
 use super::super::scene::Span;
-use super::words::words_fit;
+use super::words::{extent, words_fit};
 use super::*;
 use crate::notation;
 
@@ -157,6 +157,31 @@ fn the_words_stand_where_there_is_room() {
     assert_eq!(long, said("asked at 1, broken at 2", "298", "start"));
 }
 
+/// The first words that the line of the flag crosses, but for those on the flag.
+fn crossed(drawn: &[Element]) -> Option<&str> {
+    let path = values(drawn, "pole", "d").concat();
+    let pieces = path.split('M').skip(1).map(|piece| {
+        let mut numbers = piece
+            .split([' ', 'V'])
+            .map(|number| number.parse().unwrap());
+        [(); 3].map(|()| numbers.next().unwrap())
+    });
+    let pieces: Vec<[f64; 3]> = pieces.collect();
+    let texts = drawn
+        .iter()
+        .filter(|it| it.tag == "text" && it.get("class") != "flag");
+    let crosses = |text: &&Element| {
+        let [left, right, top, bottom] = extent(text);
+        let over =
+            |[x, from, to]: &[f64; 3]| left < *x && *x < right && top < *to && *from < bottom;
+        pieces.iter().any(over)
+    };
+    texts
+        .into_iter()
+        .find(crosses)
+        .map(|text| text.text.as_str())
+}
+
 #[test]
 fn the_words_fit_for_every_mark() {
     let name = "n".repeat(200);
@@ -180,6 +205,7 @@ fn the_words_fit_for_every_mark() {
                 };
                 let drawn = drawn(&scene);
                 assert_eq!(words_fit(&drawn), Ok(()), "{from} to {closed:?} of {count}");
+                assert_eq!(crossed(&drawn), None, "{from} to {closed:?} of {count}");
                 assert_eq!(of_class(&drawn, "span").len(), 1);
             }
         }

@@ -194,7 +194,7 @@ fn an_endless_assertion_says_how_much_is_left_out() {
 }
 
 /// The box of a text: left, right, top, bottom, by 0.6 em a cell.
-fn extent(text: &Element) -> [f64; 4] {
+pub fn extent(text: &Element) -> [f64; 4] {
     let (x, y, size) = (text.number("x"), text.number("y"), text.number("font-size"));
     let width = cells(&text.text) as f64 * size * 0.6;
     let left = match text.get("text-anchor") {
