@@ -124,6 +124,22 @@ mod tests {
         }
     }
 
+    /// Level 3 is strong, 2 neutral, 1 weak, and each answer implies the next.
+    #[test]
+    fn levels_are_the_answers_of_the_page() {
+        let page = include_str!("../../../docs/FORMAT.md");
+        for level in LEVELS {
+            let number = level.number();
+            let answers = [3, 2, 1].map(|least| if number >= least { "yes" } else { "no" });
+            let row = format!(
+                "| {number} | {} | {} |",
+                answers.join(" | "),
+                level.meaning()
+            );
+            assert!(page.contains(&row), "docs/FORMAT.md has no row {row:?}");
+        }
+    }
+
     #[test]
     fn a_judgement_is_the_line_of_the_program() {
         let level = Level::Strong;

@@ -90,11 +90,11 @@ mod tests {
     }
 
     #[test]
-    fn the_reasons_are_those_of_the_readme() {
-        let readme = include_str!("../../../README.md").replace("`\\|->`", "|->");
+    fn the_reasons_are_those_of_the_page() {
+        let page = include_str!("../../../docs/FORMAT.md").replace("`\\|->`", "|->");
         for number in 1..=15 {
             let row = format!("| {number} | {} | ", refused(number, 0).reason());
-            assert!(readme.contains(&row), "README.md has no row {row:?}");
+            assert!(page.contains(&row), "docs/FORMAT.md has no row {row:?}");
         }
     }
 }

@@ -1,4 +1,4 @@
-//! The examples of the page by both engines, each refusal once, and what each call leaves in what it is lent.
+//! The examples of docs/FORMAT.md by both engines, each refusal once, and what each call leaves in what it is lent.
 mod files;
 mod tables;
 
@@ -272,6 +272,112 @@ fn the_constants_are_the_header_s() {
             text.starts_with(&format!("{line},")) || text.starts_with(&format!("{line} "))
         });
         assert!(found, "include/xistomar.h does not say {line}");
+    }
+}
+
+/// The number of a node that a block of docs/FORMAT.md names: 1st, 2nd, .. of the block whose first is number
+/// `at`, or c, b, P, Q by their new numbers.
+fn named(word: &str, at: u8) -> u8 {
+    match word {
+        "b" => 0,
+        "c" => 1,
+        "P" => 11,
+        "Q" => 21,
+        _ => {
+            let digits = word.trim_end_matches(|end: char| end.is_alphabetic());
+            at + digits.parse::<u8>().unwrap() - 1
+        }
+    }
+}
+
+/// The bytes of a block of docs/FORMAT.md, as it is written there.
+fn block(title: &str, at: u8) -> Vec<u8> {
+    let page = include_str!("../../../docs/FORMAT.md");
+    let row = format!("| {title} nodes | ");
+    let row = page.lines().find_map(|line| line.strip_prefix(&row));
+    let nodes = row.expect("the block").trim_end_matches(" |").split("; ");
+    let bytes = |node: &str| {
+        let node = node.replace('`', "");
+        if let Some((left, right)) = node.split_once(" and ") {
+            return [3, named(left, at), named(right, at), 0];
+        }
+        let (word, operands) = match node.split_once('(') {
+            Some((word, operands)) => (word, operands.trim_end_matches(')')),
+            None => node.split_once(' ').unwrap(),
+        };
+        let operator = match (word, operands) {
+            ("not", "c") => 2,
+            ("letter", _) => 16,
+            ("##1", _) => 17,
+            ("or", _) => 19,
+            ("[*0]", _) => 20,
+            ("[*1:$]", _) => 21,
+            ("strong", _) => 32,
+            ("not", _) => 34,
+            ("and", _) => 36,
+            ("nexttime", _) => 38,
+            ("until", _) => 39,
+            _ => panic!("{node}"),
+        };
+        let (x, y) = operands.split_once(", ").unwrap_or((operands, ""));
+        let y = if y.is_empty() { 0 } else { named(y, at) };
+        [operator, named(x, at), y, 0]
+    };
+    nodes.flat_map(bytes).collect()
+}
+
+/// b and c are the booleans 0 and 1. The letter's block is nodes 2 to 10 and P, strong of it, node 11; Q is
+/// node 21 in the same way.
+#[test]
+fn the_blocks_of_rewriting_are_the_page_s() {
+    let (letter, strong) = ([16, 0, 0], [32, 2, 0]);
+    let rewritten = |nodes: &[[u8; 3]]| {
+        let mut out = [0; 486];
+        let count = xistomar::rewrite(&table(nodes), &mut out).unwrap();
+        out[6..6 + 4 * count].to_vec()
+    };
+    let booleans = [[1, 0, 0], [1, 2, 0]];
+    let one = rewritten(&[&booleans[..], &[letter, strong, [40, 1, 3]]].concat());
+    let p = block("letter b, 9", 2);
+    assert_eq!(one[8..44], p);
+    assert_eq!(one[44..], [32, 10, 0, 0]);
+    let next = [letter, strong, [38, 3, 0], [40, 1, 4]];
+    let next = rewritten(&[&booleans[..], &next].concat());
+    assert_eq!(next[48..], block("nexttime P, 14", 12));
+    let until = [letter, strong, letter, [32, 4, 0], [39, 3, 5], [40, 1, 6]];
+    let until = rewritten(&[&booleans[..], &until].concat());
+    assert_eq!(until[8..44], p);
+    assert_eq!(until[48..84], block("letter b, 9", 12));
+    assert_eq!(until[88..], block("P until Q, 9", 22));
+}
+
+/// docs/FORMAT.md has a row for each call, with the order of its refusals, and the header says the same.
+#[test]
+fn the_orders_of_refusals_are_the_page_s() {
+    let header = include_str!("../../../include/xistomar.h");
+    let page = include_str!("../../../docs/FORMAT.md");
+    let orders = [
+        ("check", "xistomar_check", "1 to 9"),
+        ("read", "xistomar_read", "1, 2, 3, 10, 5, 15"),
+        ("expand", "xistomar_expand", "1 to 9, 13, 15"),
+        ("rewrite", "xistomar_rewrite", "1 to 9, 13, 15"),
+        ("judge", "xistomar_judge", "1 to 9, 12, 13, 10, 11"),
+        ("plain", "xistomar_plain_judge", "1 to 9, 12, 13, 10"),
+        ("ends", "xistomar_match_ends", "1 to 9, 12, 13, 10, 14, 11"),
+    ];
+    for (call, function, order) in orders {
+        let row = |line: &str| {
+            let cells: Vec<&str> = line.split(" | ").collect();
+            cells.len() == 4 && cells[0] == format!("| {call}") && cells[2] == order
+        };
+        assert!(page.lines().any(row), "docs/FORMAT.md: no row of {call}");
+        let (before, _) = header.split_once(&format!(" {function}(")).unwrap();
+        let (_, comment) = before.rsplit_once("/*").unwrap();
+        let says = [".", ";"].map(|end| format!("efusals {order}{end}"));
+        assert!(
+            says.iter().any(|words| comment.contains(words)),
+            "include/xistomar.h: {function}"
+        );
     }
 }
 

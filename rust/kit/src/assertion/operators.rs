@@ -1,5 +1,5 @@
-//! The operators of documents 01 and 02, with the sort of each node and of its operands, and the
-//! version of tables from which on they are known.
+//! The operators of docs/FORMAT.md, with the sort of each node and of its operands, and the version of
+//! tables from which on they are known.
 
 /// The sort of a node.
 #[derive(Clone, Copy, Debug, PartialEq, Eq, Hash)]
@@ -12,7 +12,7 @@ pub enum Sort {
     Property,
 }
 
-/// The operator of a node; its number is the documents'.
+/// The operator of a node, with its number.
 #[derive(Clone, Copy, Debug, PartialEq, Eq, Hash)]
 pub enum Operator {
     /// The boolean 0 or 1.
@@ -205,7 +205,7 @@ mod tests {
         let known: Vec<u8> = (0..=255).filter(|n| Operator::of(*n).is_some()).collect();
         let page: Vec<u8> = (0..=6).chain(16..=26).chain(32..=47).collect();
         assert_eq!(known, page);
-        // document 02 adds 5 and 6 with version 2, and the derived ones with version 3
+        // version 2 adds 5 and 6, and version 3 the derived ones
         let of_version = |version: u16| {
             let since = |number: &u8| Operator::of(*number).map(Operator::since);
             let numbers = page.iter().copied();
@@ -217,6 +217,41 @@ mod tests {
         for (operator, sort, operands) in OPERATORS {
             assert_eq!(Operator::of(operator as u8), Some(operator));
             assert_eq!((operator.sort(), operator.operands()), (sort, operands));
+        }
+    }
+
+    /// The table of docs/FORMAT.md: number, node, sort, operands, fourth byte, versions.
+    #[test]
+    fn every_operator_has_its_row_on_the_page() {
+        let page = include_str!("../../../../docs/FORMAT.md").replace("\\|", "/");
+        let (_, table) = page.split_once("\n## The operators\n").unwrap();
+        let (table, _) = table.split_once("\n## ").unwrap();
+        let rows: Vec<Vec<&str>> = table
+            .lines()
+            .map(|line| line.trim_matches('|').split('|').map(str::trim).collect())
+            .filter(|row: &Vec<&str>| row[0].parse::<u8>().is_ok())
+            .collect();
+        assert_eq!(rows.len(), OPERATORS.len());
+        let word = |sort: &Sort| match sort {
+            Boolean => "boolean",
+            Sequence => "sequence",
+            Property => "property",
+        };
+        for (row, (operator, sort, operands)) in rows.iter().zip(OPERATORS) {
+            let operands = match operator {
+                Constant => "x is 0 or 1".to_string(),
+                Signal | Rose | Fell => "x is 0 to 63".to_string(),
+                _ => operands.iter().map(word).collect::<Vec<_>>().join(", "),
+            };
+            let fourth = match operator {
+                Times | Delay => "m + 16n, m at most n",
+                Goto | Nonconsecutive => "m, at most 15",
+                _ => "0",
+            };
+            let versions = ["1 to 3", "2, 3", "3"][usize::from(operator.since()) - 1];
+            let number = (operator as u8).to_string();
+            assert_eq!(row[0], number);
+            assert_eq!(row[2..], [word(&sort), &operands, fourth, versions]);
         }
     }
 }
