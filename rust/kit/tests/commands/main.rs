@@ -8,6 +8,7 @@ mod judge;
 mod names;
 mod options;
 mod outputs;
+mod patterns;
 mod picture;
 mod record;
 mod show;
