@@ -6,7 +6,7 @@ pub const DONE: u8 = 0;
 pub const BELOW: u8 = 1;
 /// The command line is wrong.
 pub const USAGE: u8 = 2;
-/// A table or a record is refused, with a number of document 01.
+/// A table or a record is refused, with a number of docs/FORMAT.md (Refusals).
 pub const REFUSED: u8 = 3;
 /// A file cannot be read, written or understood.
 pub const FAILED: u8 = 4;

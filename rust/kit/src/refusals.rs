@@ -1,4 +1,4 @@
-//! Refusals in words. What the numbers mean is document 01's.
+//! Refusals in words. What the numbers mean stands in docs/FORMAT.md (Refusals).
 use crate::assertion::{Assertion, Operator, Sort};
 use crate::failure::Failure;
 use crate::files;
@@ -13,7 +13,7 @@ pub fn line(refusal: Refusal) -> String {
     format!("refused {} at {}", refusal.number(), refusal.node())
 }
 
-/// The failure for a file that is refused: the program's line and the page's words.
+/// The failure for a file that is refused: the program's line and the words of docs/FORMAT.md.
 pub fn failure(path: &Path, refusal: Refusal) -> Failure {
     let (shown, line, reason) = (files::shown(path), line(refusal), refusal.reason());
     Failure::Refused(format!("{shown}: {line}: {reason}"))

@@ -1,4 +1,4 @@
-//! Document 01's examples, and the small cases that catch a slip. a, b, c are signals 0, 1, 2.
+//! The examples of docs/FORMAT.md, and the small cases that catch a slip. a, b, c are signals 0, 1, 2.
 mod clocked;
 mod tables;
 

@@ -1,4 +1,4 @@
-//! Version 2: signals that have risen or fallen since the sample before, worked out by hand from document 02's request 2. a, b, c are signals 0, 1, 2.
+//! Version 2: signals that have risen or fallen since the sample before, worked out by hand from docs/FORMAT.md (Letters, words and tails). a, b, c are signals 0, 1, 2.
 mod clocked;
 mod tables;
 

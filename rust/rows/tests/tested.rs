@@ -1,4 +1,4 @@
-//! Whether a record tests an assertion, worked out by hand from document 02's request 3. a, b, c are signals 0, 1, 2, so that a sample of 5 has a and c.
+//! Whether a record tests an assertion, worked out by hand from docs/FORMAT.md (Tested). a, b, c are signals 0, 1, 2, so that a sample of 5 has a and c.
 mod tables;
 
 use rows::{judge, Verdict};

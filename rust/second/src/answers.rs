@@ -1,4 +1,5 @@
-//! The entry points, each with its refusals in the page's order.
+//! The entry points, each with its refusals in the order of
+//! docs/FORMAT.md (Refusals).
 
 use crate::expansion::expanded;
 use crate::meaning::Meaning;

@@ -1,8 +1,7 @@
 //! A second opinion on clocked assertions over sampled records.
 //!
-//! Every answer follows the definitions of document 01, with requests 1 to 4 of
-//! document 02, clause by clause, on explicit letters. It is slow on purpose
-//! and shares nothing with the product.
+//! Every answer follows the rules of docs/FORMAT.md, clause by clause, on explicit
+//! letters. It is slow on purpose and shares nothing with the product.
 
 #![forbid(unsafe_code)]
 

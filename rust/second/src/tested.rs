@@ -1,5 +1,5 @@
-//! When a record tests a property: the non-vacuity of source 000, as request 3
-//! of document 02 has it, on the clocked table and on the record with no tail.
+//! When a record tests a property: the non-vacuity of source 000, as docs/FORMAT.md
+//! (Tested) has it, on the clocked table and on the record with no tail.
 
 use crate::meaning::Meaning;
 use crate::node::Node;

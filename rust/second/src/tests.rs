@@ -1,4 +1,4 @@
-//! The examples of document 01, the small cases of the open points, the plain
+//! The examples of docs/FORMAT.md, the small cases of the open points, the plain
 //! judge, rising and falling signals, what is tested, expanding, refusals, and
 //! checks over many random cases.
 
@@ -66,7 +66,7 @@ fn clocked_strong(a: (u8, u8, u8), c: (u8, u8, u8)) -> [(u8, u8, u8); 5] {
     [a, c, (16, 0, 0), (32, 2, 0), (40, 1, 3)]
 }
 
-/// Their rewriting, as document 01 has it.
+/// Their rewriting, by docs/FORMAT.md (Rewriting clocks away).
 fn clocked_strong_rewritten(a: (u8, u8, u8), c: (u8, u8, u8)) -> [(u8, u8, u8); 12] {
     [
         a,

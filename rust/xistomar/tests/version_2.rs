@@ -1,4 +1,4 @@
-//! Version 2 tables: signals that have risen or fallen since the sample before, worked out by hand from document 02's request 2.
+//! Version 2 tables: signals that have risen or fallen since the sample before, worked out by hand from docs/FORMAT.md (Letters, words and tails).
 mod files;
 
 use files::{level, record, refused, table};
@@ -46,7 +46,7 @@ fn pairs_are_made_before_a_suffix_is_taken() {
     assert_eq!(judge.match_ends(&sequence, &[0, 1], 1).unwrap().mask, 4);
 }
 
-/// @(c) strong(rose a), and its bytes when rewritten are those of document 01's example but for node 0 and the version.
+/// @(c) strong(rose a), and its bytes when rewritten are those of @(c) strong(a) but for node 0 and the version.
 #[test]
 fn under_a_clock_the_sample_before_counts() {
     let clocked = |version, boolean| {

@@ -1,6 +1,6 @@
 //! What was tested, read off the rows that the judge left, with a slip in one clause.
 
-/// A clause of request 3 that is read wrong.
+/// A clause of docs/FORMAT.md (Tested) that is read wrong.
 #[derive(Clone, Copy, PartialEq, Eq)]
 pub enum Slip {
     /// None is.

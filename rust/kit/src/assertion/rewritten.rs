@@ -26,7 +26,7 @@ impl Assertion {
         places
     }
 
-    /// The nodes of the block of a sequence or property node that is no clock, as document 01 lists them.
+    /// The nodes of the block of a sequence or property node that is no clock, as docs/FORMAT.md (Rewriting clocks away) lists them.
     fn block(&self, index: usize) -> usize {
         match (self.node(index).operator, self.clock(index)) {
             (Operator::Letter | Operator::Until, Some(_)) => 9,

@@ -1,7 +1,7 @@
 use super::*;
 use crate::testing::table;
 
-/// The page's `@(c) strong(a)`: booleans 0 and 1, a block of nine for the letter, and strong.
+/// `@(c) strong(a)`: booleans 0 and 1, a block of nine for the letter, and strong.
 #[test]
 fn a_node_stands_at_the_end_of_its_block() {
     let nodes = [[1, 0, 0], [1, 2, 0], [16, 0, 0], [32, 2, 0], [40, 1, 3]];
@@ -45,13 +45,13 @@ fn tidied(nodes: &[[u8; 3]]) -> Vec<u8> {
 }
 
 #[test]
-fn the_pages_tables_are_in_the_kits_order() {
-    // strong(a), in the page's hex
-    let page = [
+fn tables_are_in_the_kits_order() {
+    // strong(a)
+    let strong_a = [
         0x53, 0x56, 0x54, 1, 0, 3, 1, 0, 0, 0, 0x10, 0, 0, 0, 0x20, 1, 0, 0,
     ];
-    let strong = Assertion::of_table(&page).unwrap();
-    assert_eq!(strong.tidy().table(), page);
+    let strong = Assertion::of_table(&strong_a).unwrap();
+    assert_eq!(strong.tidy().table(), strong_a);
     // @(c) strong(a)
     let clocked = [[1, 0, 0], [1, 2, 0], [16, 0, 0], [32, 2, 0], [40, 1, 3]];
     assert_eq!(tidied(&clocked), table(&clocked));

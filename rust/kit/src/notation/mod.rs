@@ -1,4 +1,4 @@
-//! Assertions as text: a small notation for exactly the operators of documents 01 and 02.
+//! Assertions as text: a small notation for exactly the operators of docs/FORMAT.md.
 //! docs/NOTATION.md has its grammar.
 mod comment;
 mod counts;

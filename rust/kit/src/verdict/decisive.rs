@@ -1,7 +1,7 @@
 //! The decisive part of an assertion on a record: the lowest node whose own answer explains the level.
 //!
 //! The own answer of a node at a sample is the judge's level of its part ([`Assertion::part`]) from
-//! there on. By document 01 the level of every property is made of its operands' levels
+//! there on. By docs/FORMAT.md (What a property says) the level of every property is made of its operands' levels
 //! (n is the number of samples; under a clock, samples are ticks):
 //!
 //! | property | its level at sample i |

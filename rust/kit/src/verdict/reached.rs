@@ -12,7 +12,7 @@
 //! | `nexttime P` | P at i + 1, if i is below n; under a clock, P at the second tick from i on, if there is one |
 //! | `P until Q` | P and Q at each sample from i on, up to the first where P does not hold or Q does; under a clock, samples are ticks |
 //!
-//! Derived operators are written out first, so that these rules are enough. By document 02 a record tests
+//! Derived operators are written out first, so that these rules are enough. By docs/FORMAT.md (Tested) a record tests
 //! the assertion exactly where it reaches some `strong` or `weak`. That answer is the judge's; the tests
 //! hold it against what is reached here.
 //!

@@ -389,7 +389,7 @@ fn names_are_printed_on_one_line_whatever_they_contain() {
 fn a_refused_table_judges_nothing() {
     let run = Folder::new();
     let record = example("flush.svw");
-    // strong(a[*0]): refused with 9 at node 3, as on the page
+    // strong(a[*0]): refused with 9 at node 3
     let nodes = [[1, 0, 0], [16, 0, 0], [20, 1, 0], [32, 2, 0]];
     let bad = run.file("bad.svt", table(&nodes));
     let ran = kit(["batch", &bad, &record]);

@@ -180,7 +180,7 @@ fn refusals_1_to_5_say_what_was_found() {
         .ends_with("and the file has 512 bytes or more\n"));
 }
 
-/// The lines after the page's words, for a table that is refused at its last node.
+/// The lines after the words of docs/FORMAT.md, for a table that is refused at its last node.
 fn found_in(table: &[u8], number: u8) -> String {
     let (status, out) = shown(table);
     let line = format!("refused {number} at {}\n", table[5] - 1);

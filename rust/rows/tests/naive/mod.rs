@@ -1,4 +1,4 @@
-//! Whether a table is tested, by document 02's sentences and position by position. Where a property holds and a sequence matches is read off the rows.
+//! Whether a table is tested, by the sentences of docs/FORMAT.md (Tested) and position by position. Where a property holds and a sequence matches is read off the rows.
 
 /// A table's nodes with their clocks, the new node that stands for each, and what the judge left of n samples.
 pub struct Naive<'a> {

@@ -1,5 +1,5 @@
 //! The block of each derived operator, written out by hand to the byte. A node
-//! is written as in document 01, 17(2,3), with its fourth byte after y.
+//! is written 17(2,3), operator, x and y, with its fourth byte after y.
 
 use super::table_3;
 use crate::{expand, Verdict};

@@ -18,7 +18,7 @@ const NUMBERS: [(&str, &[u8]); 8] = [
     ("program", &[0, 1, 2, 3, 4, 5, 6, 7, 8, 9, 10, 12, 13]),
 ];
 
-/// The refusals of versions and nodes that request 2 is about.
+/// The refusals of versions and nodes that version 2 is about.
 const FAULTS: [&str; 11] = [
     "table of version 0",
     "table of version 4",

@@ -1,4 +1,4 @@
-//! The examples of document 01 and the small cases of the open points.
+//! The examples of docs/FORMAT.md and the small cases of the open points.
 
 use super::{abc, clocked_strong, clocked_strong_rewritten, has_level, table};
 use crate::record::record_bytes;

@@ -1,5 +1,5 @@
-//! Rising and falling signals, worked out by hand from request 2. Pairs are
-//! written (sample before, sample); a, b, c are signals 0, 1, 2.
+//! Rising and falling signals, worked out by hand from docs/FORMAT.md (Letters, words
+//! and tails). Pairs are written (sample before, sample); a, b, c are signals 0, 1, 2.
 
 use super::{has_level, table_2};
 use crate::{judge, match_ends, Verdict};

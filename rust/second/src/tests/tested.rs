@@ -1,5 +1,5 @@
-//! When a record tests an assertion, worked out by hand from request 3 of
-//! document 02. a, b, c are signals 0, 1, 2, and a sample is 1, 2 and 4 of them.
+//! When a record tests an assertion, worked out by hand from docs/FORMAT.md (Tested).
+//! a, b, c are signals 0, 1, 2, and a sample is 1, 2 and 4 of them.
 
 use super::table;
 use crate::record::record_bytes;

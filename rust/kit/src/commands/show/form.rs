@@ -32,7 +32,7 @@ pub const RECORD: Form = Form {
     part: 8,
 };
 
-/// The program's line, the page's words, and what was found.
+/// The program's line, the words of docs/FORMAT.md (Refusals), and what was found.
 pub fn report(refusal: Refusal, found: &str) -> String {
     let (line, reason) = (refusals::line(refusal), refusal.reason());
     format!("{line}\n{reason}\n{found}\n")

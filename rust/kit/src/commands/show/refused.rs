@@ -7,7 +7,7 @@ use crate::refusals;
 use crate::source::Source;
 use xistomar::Refusal;
 
-/// The program's line, the page's words, what was found, and the nodes around a refused one.
+/// The program's line, the words of docs/FORMAT.md (Refusals), what was found, and the nodes around a refused one.
 pub fn report(source: &Source, refusal: Refusal) -> String {
     let table = &source.table;
     let found = match refusal.number() {
@@ -46,7 +46,7 @@ fn bytes(table: &[u8], node: usize) -> [u8; 4] {
         .unwrap_or_default()
 }
 
-/// Which of the page's reasons for refusal 6 a node gives, in the page's order.
+/// Which of the reasons for refusal 6 a node gives, in the order of docs/FORMAT.md (Refusals).
 fn faults(table: &[u8], node: usize) -> Vec<String> {
     let [number, x, y, fourth] = bytes(table, node);
     let Some(operator) = Operator::of(number) else {

@@ -215,7 +215,7 @@ fn equal_booleans_are_one_node() {
     assert_ne!(table("a & b"), table("b & a"));
 }
 
-/// The bench examples of document 01, with a, b, c signals 0, 1, 2.
+/// The examples of docs/FORMAT.md, with a, b, c signals 0, 1, 2.
 #[test]
 fn the_pages_bench_examples_have_their_levels() {
     let examples: [(&str, &[u64], u8); 11] = [
@@ -239,7 +239,7 @@ fn the_pages_bench_examples_have_their_levels() {
     // P12
     let ends = judge.match_ends(&table("a[*1:$]"), &[1, 1, 2], 0).unwrap();
     assert_eq!(ends.mask, 6);
-    // and the page's refusal 9, which is the check's
+    // and refusal 9, which is the check's
     let hollow = table("strong(a[*0])");
     assert_eq!(xistomar::check(&hollow).unwrap_err().number(), 9);
 }

@@ -1,4 +1,4 @@
-//! P1 to P11 of document 01, and the flush of examples/flush.txt. a, b, c are signals 0, 1, 2.
+//! P1 to P11 of docs/FORMAT.md, and the flush of examples/flush.txt. a, b, c are signals 0, 1, 2.
 use super::super::ready;
 use super::{check, found};
 use crate::engine::Engine;

@@ -227,7 +227,7 @@ fn what_matched_and_was_never_asked_is_awaited() {
     );
 }
 
-/// Document 02: strong and weak are tested, and every other property where one of them is reached; those
+/// docs/FORMAT.md, Tested: strong and weak are tested, and every other property where one of them is reached; those
 /// among them that derived operators are written out to.
 #[test]
 fn a_record_tests_an_assertion_where_it_reaches_strong_or_weak() {
