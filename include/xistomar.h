@@ -1,7 +1,8 @@
 /* Xistomar: a proved judge of clocked assertions. The functions of libxistomar.a, for C.
  *
  * Each takes any bytes, samples and sizes, and tests them itself. A refusal answers its number and its node, and nothing lent is changed; an acceptance has
- * number and node 0. What each answers is stated and proved: docs/STATEMENTS.md.
+ * number and node 0. The bytes of a table and of a record, what each operator says, the numbers of refusal and the rows: docs/FORMAT.md. What each function answers is
+ * stated and proved: docs/STATEMENTS.md.
  *
  * A table is of version 1, 2 or 3, a record of version 1. A version 2 table may also ask whether a signal has risen or fallen since the sample before (operators 5 and
  * 6); the sample before the first is all zero. So a letter is a pair of samples, made of all the samples that are lent, whatever the start. A version 3 table may also

@@ -3,7 +3,8 @@
 //! An assertion comes as a **table**, a small file of nodes; what a probe saw comes as a
 //! **record**, a file of at most 63 samples of 64 signals. The judge answers the [`Level`] at which
 //! the assertion holds on the samples. Bad input is refused with a [`Refusal`], and then nothing
-//! lent is changed.
+//! lent is changed. docs/FORMAT.md has the bytes of both, what each operator says, the numbers of
+//! refusal and the rows.
 //!
 //! A table is of version 1, 2 or 3, a record of version 1. A version 2 table may also ask whether a
 //! signal has risen or fallen since the sample before (operators 5 and 6); the sample before the

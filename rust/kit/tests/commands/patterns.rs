@@ -95,6 +95,8 @@ fn judged(folder: &Folder, declared: &[&str], assertion: &str, samples: &[u64]) 
         "--once",
     ]);
     assert_eq!((ran.status, ran.err.as_str()), (0, ""), "{assertion}");
+    let alone = "Judged by the plain engine alone";
+    assert!(!ran.out.contains(alone), "{assertion}");
     ran
 }
 
