@@ -105,10 +105,10 @@ the picture; it has no scripts and needs no other file.
 
 From top to bottom it shows
 
-  the title         the comment before the first word of the text, where the TABLE is a text
+  the title         the comment before the first word of the text that the table is made of
   the verdict       the program's line, what the level means, and the assertion
   the samples       a column each, from 0, and a dashed region for what comes after the record
-  the times         of the samples, where they are known: all that have room, as they were recorded
+  the times         of the samples, where RECORD.json tells them: all that have room
   the ticks         a row for each clock of the assertion, with a mark where it ticks
   the changes       a row for each rose(a) and fell(a), with an arrow where it is so
   the signals       a waveform each: all that have a name or that the assertion asks about
@@ -119,15 +119,16 @@ From top to bottom it shows
                     closed; one that is open has no right end
   the levels        the level at the start and after each sample, as a bar with its digit
   the legend        what the bars and the marks mean
-  the origin        what the picture is made of, where that is known
+  the files         the table, the record and the waveform with their SHA-256, where each signal
+                    came from, whose the names are, and the version of the kit
 
 A flag marks the sample at which the level closed, with its time: a 3 or a 0 stays, whatever comes
 next. Without a flag the level is open at the end of the record.
 
   TABLE             a .svt file, or a text whose name ends in .txt
   RECORD            a .svw file of at most 63 samples
-  --names FILE.txt  a text that declares the signals' names, for a .svt, as for kit judge. Its comment
-                    is no title, since it is not what is judged
+  --names FILE.txt  a text that declares the signals' names, for a .svt, as for kit judge. Its
+                    comment is no title, since it is not what is judged
   --engine WHICH    both, which is the default, fast or plain, as for kit judge. Where the plain
                     engine judges alone there are no rows for |->, no decisive part and no bracket,
                     and the picture and the line say so

@@ -93,6 +93,7 @@ fn judged(folder: &Folder, declared: &[&str], assertion: &str, samples: &[u64]) 
         &folder.path("t.txt"),
         &folder.path("r.svw"),
         "--once",
+        "--require=0",
     ]);
     assert_eq!((ran.status, ran.err.as_str()), (0, ""), "{assertion}");
     let alone = "Judged by the plain engine alone";
