@@ -54,7 +54,8 @@ pub fn delay(after: &str) -> Result<Option<Counted>, String> {
 /// The numbers of `m` or `m:n`; none where they are no numbers, and words where they are not good.
 fn bounds(text: &str) -> Result<Option<(u8, u8)>, String> {
     match pair(text) {
-        Some((m, Some(n))) if m.max(n) > MOST => Err(too_large()),
+        // larger ones are left to the hints
+        Some((m, Some(n))) if m.max(n) > MOST => Ok(None),
         Some((m, Some(n))) if m > n => Err(format!("{}: write {n}:{m}", backwards(m, n))),
         Some((m, Some(n))) => Ok(Some((m, n))),
         _ => Ok(None),
@@ -72,11 +73,6 @@ pub fn pair(text: &str) -> Option<(u8, Option<u8>)> {
         "$" => Some((number(least)?, None)),
         _ => Some((number(least)?, Some(number(most)?))),
     }
-}
-
-/// The words for numbers that are above [`MOST`].
-pub fn too_large() -> String {
-    format!("numbers go to {MOST} at most: two repetitions or delays in a row go further")
 }
 
 /// The words for two numbers of which the first is above the second.
@@ -120,20 +116,35 @@ mod tests {
     #[test]
     fn other_forms_are_left_to_the_hints() {
         for inside in [
-            "", "+", "*", "*0:$", "*2:$", "->1:2", "->2:1", "=1:99", "=1:$", "3", "*a", "*1:2:3",
+            "",
+            "+",
+            "*",
+            "*0:$",
+            "*2:$",
+            "->1:2",
+            "->2:1",
+            "=1:99",
+            "=1:$",
+            "3",
+            "*a",
+            "*1:2:3",
+            "*16",
+            "*3:20",
+            "->99999999999999999999",
         ] {
             assert_eq!(repeated(inside), None, "{inside}");
         }
-        for after in ["", "[2]", "[1:$]", "[+]", "a"] {
+        for after in ["", "[2]", "[1:$]", "[+]", "a", "16", "[20:3]"] {
             assert_eq!(delayed(after), None, "{after}");
         }
     }
 
     #[test]
     fn numbers_that_are_not_good_get_words() {
-        assert!(repetition("*16").unwrap_err().contains("15 at most"));
-        assert!(repetition("->99999999999999999999").is_err());
-        assert!(delay("16").is_err());
+        assert_eq!(
+            repetition("*5:4").unwrap_err(),
+            "5 to 4 counts backwards: write 4:5"
+        );
         assert_eq!(
             delay("[3:2]").unwrap_err(),
             "3 to 2 counts backwards: write 2:3"

@@ -1,4 +1,5 @@
 //! Reading `rose(a)` and `fell(a)`, of a signal and of no other boolean.
+use super::forms::bare;
 use super::levels::CLOCK;
 use super::lexer::Token;
 use super::mistake::Mistake;
@@ -65,7 +66,10 @@ impl Parser<'_> {
         let is = match self.operator(part.index) {
             _ if part.sort != Sort::Boolean => called(part.sort).to_string(),
             Some(Operator::Constant) => "a constant".to_string(),
-            _ => format!("none: {}", self.instead(rises, part.index, &shown)),
+            _ => {
+                let own = self.own(part).map_or("b", bare);
+                format!("none: {}", self.instead(rises, part.index, own))
+            }
         };
         let words = format!("only a signal can {verb}, and `{shown}` is {is}");
         self.mistake(part.start, words)

@@ -1,6 +1,8 @@
 //! What people write who know SystemVerilog or another language, and what to write instead.
+use super::forms::{filled, written, Texts};
 use super::numbered;
-pub use super::numbered::{prefix, takes_numbers};
+pub use super::numbered::{past, prefix, takes_numbers};
+use crate::assertion::MOST_NODES;
 use std::fmt;
 
 /// What to write instead.
@@ -12,15 +14,84 @@ pub enum Hint {
     Written(&'static str, &'static str),
     /// The same, and more words.
     Noted(&'static str, &'static str, &'static str),
-    /// A form and the same in the notation, with the numbers that were given.
+    /// A form and the same in the notation, with the numbers or the parts that were given.
     Made(String, String),
+    /// The same, after words on what is wrong with the form.
+    Turned(String, String, String),
+    /// A form that no table has room for.
+    Vast(String),
     /// In other words.
     Words(&'static str),
-    /// In words with the numbers that were given.
+    /// In words with what was given.
     Told(String),
 }
 
-use Hint::{Made, Noted, Told, Words, Written};
+use Hint::{Made, Noted, Told, Turned, Vast, Words, Written};
+
+impl Hint {
+    /// The hint with texts put in for its letters: those of a person in the form, and what is to be written for
+    /// each in what is written instead.
+    pub fn with(self, own: &Texts, texts: &Texts) -> Hint {
+        let both = |form: &str, instead: &str| (filled(form, own), written(instead, texts));
+        match self {
+            Written(form, instead) => {
+                let (form, instead) = both(form, instead);
+                Made(form, instead)
+            }
+            Noted(form, instead, more) => {
+                let (form, instead) = both(form, instead);
+                Told(format!("{}{more}", Made(form, instead)))
+            }
+            Made(form, instead) => {
+                let (form, instead) = both(&form, &instead);
+                Made(form, instead)
+            }
+            Turned(words, form, instead) => {
+                let (form, instead) = both(&form, &instead);
+                Turned(words, form, instead)
+            }
+            Vast(form) => Vast(filled(&form, own)),
+            Words(_) | Told(_) => self,
+        }
+    }
+
+    /// The hint with something else made of what is to be written.
+    pub fn map(self, make: impl Fn(&str) -> String) -> Hint {
+        match self {
+            Made(form, instead) => Made(form, make(&instead)),
+            Turned(words, form, instead) => Turned(words, form, make(&instead)),
+            other => other,
+        }
+    }
+
+    /// The hint for a form that is called otherwise.
+    pub fn called(self, form: String) -> Hint {
+        match self {
+            Made(_, instead) => Made(form, instead),
+            Turned(words, _, instead) => Turned(words, form, instead),
+            Vast(_) => Vast(form),
+            other => other,
+        }
+    }
+
+    /// The form that is not part of the notation.
+    pub fn form(&self) -> Option<&str> {
+        match self {
+            Written(form, _) | Noted(form, ..) => Some(form),
+            Made(form, _) | Turned(_, form, _) | Vast(form) => Some(form),
+            Words(_) | Told(_) => None,
+        }
+    }
+
+    /// What is to be written for it.
+    pub fn instead(&self) -> Option<&str> {
+        match self {
+            Written(_, instead) | Noted(_, instead, _) => Some(instead),
+            Made(_, instead) | Turned(_, _, instead) => Some(instead),
+            Vast(_) | Words(_) | Told(_) => None,
+        }
+    }
+}
 
 impl fmt::Display for Hint {
     fn fmt(&self, f: &mut fmt::Formatter<'_>) -> fmt::Result {
@@ -28,6 +99,11 @@ impl fmt::Display for Hint {
             Written(form, instead) => write!(f, "`{form}` is written `{instead}`"),
             Noted(form, instead, more) => write!(f, "`{form}` is written `{instead}`{more}"),
             Made(form, instead) => write!(f, "`{form}` is written `{instead}`"),
+            Turned(words, form, instead) => write!(f, "{words}: `{form}` is written `{instead}`"),
+            Vast(form) => {
+                let most = format!("more than the {MOST_NODES} nodes of a table");
+                write!(f, "`{form}` is written out to {most}")
+            }
             Words(words) => f.write_str(words),
             Told(words) => f.write_str(words),
         }
@@ -37,9 +113,41 @@ impl fmt::Display for Hint {
 /// The hint for a word or sign that is not part of the notation.
 pub fn of(text: &str) -> Option<Hint> {
     if text.starts_with('$') && text.len() > 1 {
-        return Some(find(&FUNCTIONS, text).unwrap_or(FUNCTION));
+        let other = if TASKS.contains(&text) {
+            ACTION
+        } else {
+            FUNCTION
+        };
+        return Some(find(&FUNCTIONS, text).unwrap_or(other));
     }
     find(&FOREIGN, text)
+}
+
+/// Whether a word is a function with a hint of its own.
+pub fn is_function(text: &str) -> bool {
+    FUNCTIONS.iter().any(|(name, _)| *name == text)
+}
+
+/// The hint for an edge of a clock.
+pub fn edge(word: &str, clock: &str) -> Hint {
+    let (instead, says) = match word {
+        "posedge" => (
+            format!("rose({clock})"),
+            "is 1, and was 0 at the sample before",
+        ),
+        "negedge" => (
+            format!("fell({clock})"),
+            "is 0, and was 1 at the sample before",
+        ),
+        _ => (
+            format!("rose({clock}) | fell({clock})"),
+            "is not as it was at the sample before",
+        ),
+    };
+    Told(format!(
+        "`{word} {clock}` is written `{instead}`, as in `@({instead})`: {clock} {says}; `kit record --on` takes \
+         samples at an edge"
+    ))
 }
 
 /// The hint for what stands between `[` and `]` after a part, without blanks, where it is no repetition
@@ -79,6 +187,19 @@ const FUNCTION: Hint = Words(
     "functions are not part of the notation, but for `rose(a)` and `fell(a)` of a signal, which \
      stand without $",
 );
+/// What action blocks call.
+const TASKS: [&str; 8] = [
+    "$error", "$fatal", "$warning", "$info", "$display", "$write", "$stop", "$finish",
+];
+/// The hint for what stands after `assert property (..)`.
+pub const ACTION: Hint = Words(
+    "action blocks are not part of the notation and are left out: the text ends with the assertion",
+);
+/// The hint for a condition that rises or falls.
+pub const CONDITION: Hint = Words(
+    "only a signal can rise or fall: of a condition b, `!(b) ##1 (b)` says over two samples that it becomes 1, \
+     and `(b) ##1 !(b)` that it becomes 0",
+);
 const BIT: Hint = Words(
     "a repetition such as `R[*3]` was expected: a signal has one bit, so each bit of a bus is a signal \
      of its own",
@@ -95,26 +216,19 @@ const SIZE: Hint = Words("a signal is 0 or 1, and is not compared by size");
 const NUMBERS: Hint = Words("a signal is 0 or 1: there is nothing to count with here");
 const COMMENT: Hint = Words("comments begin with // and reach to the end of the line");
 const GROUP: Hint = Words("parts are held together by ( and )");
-const SET_UP: Hint = Words(
-    "the assertion stands alone, without `assert property (..);` or a name around it, and is asked at \
-     the first sample only: `always P` asks P at every one",
+/// The hint for what SystemVerilog has around an assertion.
+pub const SET_UP: Hint = Words(
+    "the assertion stands alone, without `assert property (..);`, a name or an action block around it, and is \
+     asked at the first sample only: `always P` asks P at every one",
 );
 const RESET: Hint = Words(
-    "resets are not part of the notation: judge a record that begins after the reset, as `kit record \
-     --from TIME` takes it, and ends before the next one, by its `--count N`",
+    "resets are not part of the notation and are left out: judge a record that begins after the reset, as `kit \
+     record --from TIME` takes it, and ends before the next one, by its `--count N`",
 );
 const ABSENT: Hint =
     Words("this operator is not part of the notation: kit table --help lists those that are");
-const POSEDGE: Hint = Words(
-    "`posedge c` is written `rose(c)`, as in `@(rose(c))`: c is 1, and was 0 at the sample before; \
-     `kit record --on` takes samples at an edge",
-);
-const NEGEDGE: Hint = Words(
-    "`negedge c` is written `fell(c)`, as in `@(fell(c))`: c is 0, and was 1 at the sample before; \
-     `kit record --on` takes samples at an edge",
-);
 const EDGE: Hint = Words(
-    "`edge c` is written `rose(c) | fell(c)`: c is not as it was at the sample before; `kit record \
+    "an edge of a clock c is written `rose(c)`, `fell(c)` or `rose(c) | fell(c)`, as in `@(rose(c))`; `kit record \
      --on` takes samples at an edge",
 );
 const JOINED: Hint = Words(
@@ -180,7 +294,7 @@ pub const FOREIGN: [(&str, Hint); 74] = [
     ("}", GROUP),
     ("true", Words("the constants are 1 and 0")),
     ("false", Words("the constants are 1 and 0")),
-    ("s_always", ABSENT),
+    ("s_always", Words("that P is so at every sample is said by `always P`")),
     ("never", Written("never P", "always not (P)")),
     ("eventually", EVENTUALLY),
     ("next", Words("the next sample is asked by `nexttime P`")),
@@ -212,8 +326,8 @@ pub const FOREIGN: [(&str, Hint); 74] = [
     ("reject_on", RESET),
     ("sync_accept_on", RESET),
     ("sync_reject_on", RESET),
-    ("posedge", POSEDGE),
-    ("negedge", NEGEDGE),
+    ("posedge", EDGE),
+    ("negedge", EDGE),
     ("edge", EDGE),
     ("assert", SET_UP),
     ("assume", SET_UP),

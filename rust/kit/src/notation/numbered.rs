@@ -1,40 +1,84 @@
 //! What to write for forms with numbers that are not part of the notation, with the numbers that were given.
-//! The definitions are those of source 000, F.2.3.
+//! The definitions are those of source 000, F.2.3. What is written grows evenly with each number.
 use super::counts::{self, MOST};
-use super::hints::Hint::{self, Made, Told};
+use super::forms::filled;
+use super::hints::Hint::{self, Made, Told, Turned, Vast};
+use super::spans::{apart, between, later, times, SHORT};
 use crate::assertion::Operator;
 
-/// The numbers from m to n that are written one by one, at most: five `b[->m]` or `b[=m]` always pass the 120
-/// nodes of a table.
-const LISTED: usize = 4;
+/// What is written for a form, or that it is too large. `own` has the numbers as they were given; where they
+/// stand backwards, they are turned round.
+fn forwards(own: String, m: u8, n: u8, made: impl Fn(u8, u8) -> (String, String)) -> Hint {
+    let (form, instead) = made(m.min(n), m.max(n));
+    match m > n {
+        _ if !fits(&instead) => Vast(own),
+        true => Turned(counts::backwards(m, n), form, instead),
+        false => Made(own, instead),
+    }
+}
+
+/// A hint for numbers that are part of the notation when they are smaller.
+fn limited(hint: Hint) -> Hint {
+    match hint {
+        Made(form, instead) => Turned(format!("numbers go to {MOST} at most"), form, instead),
+        other => other,
+    }
+}
+
+/// What is written for a form, or that it is too large.
+fn fitting(own: String, instead: String) -> Hint {
+    match fits(&instead) {
+        true => Made(own, instead),
+        false => Vast(own),
+    }
+}
+
+/// Whether a form is written out to 120 nodes at most, with the smallest parts in it.
+fn fits(form: &str) -> bool {
+    let small = [('P', "strong(b)"), ('R', "b"), ('S', "b")];
+    let small = small.map(|(letter, text)| (letter, text.to_string()));
+    let whole = match form.contains('P') {
+        true => filled(form, &small),
+        false => format!("strong({})", filled(form, &small)),
+    };
+    let read = super::read(&format!("signals b\n{whole}"));
+    let table = read.map(|read| read.assertion.table());
+    // any other refusal is not for its size
+    table.is_ok_and(|table| match xistomar::expanded(&table) {
+        Err(refusal) => refusal.number() != 13,
+        Ok(_) => true,
+    })
+}
 
 /// The hint for a repetition, by what stands between `[` and `]` without blanks.
 pub fn repetition(inside: &str) -> Option<Hint> {
     let (operator, numbers) = counts::split(inside)?;
     let (m, n) = counts::pair(numbers)?;
-    let sign = match operator {
-        Operator::Goto => "->",
-        _ => "=",
-    };
-    Some(match (operator, n) {
-        (_, Some(n)) => forwards(m, n, |m, n| listed(sign, m, n)),
-        // m - 1 is written
-        _ if m > MOST + 1 => Told(counts::too_large()),
-        (Operator::Times, _) => Made(format!("R[{inside}]"), repeated(m)),
-        (Operator::Goto, _) => Made(format!("b[{inside}]"), waited(m)),
-        _ => Made(format!("b[{inside}]"), among(m)),
+    if operator == Operator::Times {
+        let own = format!("R[{inside}]");
+        let made = |m, n| (format!("R[*{m}:{n}]"), repeats(m, n));
+        return Some(match n {
+            Some(n) => limited(forwards(own, m, n, made)),
+            None => fitting(own, repeated(m)),
+        });
+    }
+    let own = format!("b[{inside}]");
+    let goto = operator == Operator::Goto;
+    Some(match n {
+        // 16 groups are 128 nodes
+        _ if m.max(n.unwrap_or(0)) > MOST => Vast(own),
+        Some(n) if goto => forwards(own, m, n, |m, n| (format!("b[->{m}:{n}]"), waits(m, n))),
+        Some(n) => forwards(own, m, n, |m, n| (format!("b[={m}:{n}]"), counted(m, n))),
+        None if goto => fitting(own, waited(m)),
+        None => fitting(own, among(m)),
     })
 }
 
-/// The hint for two numbers, after words where they stand backwards.
-fn forwards(m: u8, n: u8, hint: impl Fn(u8, u8) -> Hint) -> Hint {
-    match (m.min(n), m.max(n)) {
-        (_, most) if most > MOST => Told(counts::too_large()),
-        (least, most) if m > n => {
-            let words = counts::backwards(m, n);
-            Told(format!("{words}: {}", hint(least, most)))
-        }
-        _ => hint(m, n),
+/// `R[*m:n]` with a number above 15.
+fn repeats(m: u8, n: u8) -> String {
+    match m == n {
+        true => format!("({})", times("R", n)),
+        false => format!("({})", between("R", m, n)),
     }
 }
 
@@ -43,9 +87,34 @@ fn repeated(m: u8) -> String {
     match m {
         0 => "(R[*0] or R[*1:$])".to_string(),
         1 => "R[*1:$]".to_string(),
-        2 => "(R ##1 R[*1:$])".to_string(),
-        _ => format!("(R[*{}] ##1 R[*1:$])", m - 1),
+        _ => format!("({} ##1 R[*1:$])", times("R", m - 1)),
     }
+}
+
+/// Samples up to the next that satisfies b, as few nodes as they can be.
+const NEXT: &str = "((!b)[*0] or (!b)[*1:$]) ##1 b";
+
+/// `b[->m:n]`: b m times, and up to n - m times more.
+fn waits(m: u8, n: u8) -> String {
+    match (m, n.saturating_sub(m)) {
+        (m, 0) => format!("b[->{m}]"),
+        (0, more) => format!("({})", up_to(more)),
+        (m, more) => format!("(b[->{m}] ##1 {})", up_to(more)),
+    }
+}
+
+/// `b[=m:n]`: that, and then samples without b.
+fn counted(m: u8, n: u8) -> String {
+    match (m, n.saturating_sub(m)) {
+        (m, 0) => format!("b[={m}]"),
+        (0, more) => format!("({} ##1 b[=0])", up_to(more)),
+        (m, more) => format!("(b[->{m}] ##1 {} ##1 b[=0])", up_to(more)),
+    }
+}
+
+/// b up to so many times, each with the samples before it.
+fn up_to(number: u8) -> String {
+    times(&format!("(b[*0] or {NEXT})"), number)
 }
 
 /// `b[->m:$]`.
@@ -62,20 +131,6 @@ fn among(m: u8) -> String {
     match m {
         0 | 1 => format!("({} ##1 b[=0])", waited(m)),
         _ => format!("(b[->{}] ##1 b[->1][*1:$] ##1 b[=0])", m - 1),
-    }
-}
-
-/// `b[->m:n]` or `b[=m:n]`.
-fn listed(sign: &str, m: u8, n: u8) -> Hint {
-    let form = format!("b[{sign}{m}:{n}]");
-    let all: Vec<String> = (m..=n).map(|k| format!("b[{sign}{k}]")).collect();
-    match all.as_slice() {
-        [one] => Made(form, one.clone()),
-        _ if all.len() <= LISTED => Made(form, format!("({})", all.join(" or "))),
-        _ => Told(format!(
-            "`{form}` stands for `b[{sign}{m}]` to `b[{sign}{n}]`, joined by or, and more than {LISTED} of these \
-             pass the 120 nodes of a table"
-        )),
     }
 }
 
@@ -97,43 +152,60 @@ fn brackets(after: &str) -> Option<&str> {
 
 /// The hint for a delay, by what follows `##` without blanks.
 pub fn delay(after: &str) -> Option<Hint> {
+    let own = format!("R ##{after} S");
     let later = "(R ##1 (1[*0] or 1[*1:$]) ##1 S)";
     let instead = match without_end(after) {
-        Some(m) if m > MOST + 1 => return Some(Told(counts::too_large())),
         Some(0) => format!("((R ##0 S) or {later})"),
         Some(1) => later.to_string(),
-        Some(m) => format!("(R ##{} 1[*1:$] ##1 S)", m - 1),
-        None => match counts::pair(brackets(after)?)? {
-            (m, _) if m > MOST => return Some(Told(counts::too_large())),
-            (m, _) => format!("R ##{m} S"),
-        },
+        Some(m) => format!("(R {} 1[*1:$] ##1 S)", apart(m - 1)),
+        None => {
+            let (m, n) = counts::pair(brackets(after).unwrap_or(after))?;
+            let made = |m, n| (format!("R {} S", delayed(m, n)), joined(m, n));
+            let hint = forwards(own, m, n?, made);
+            return Some(match m > MOST || n > Some(MOST) {
+                true => limited(hint),
+                false => hint,
+            });
+        }
     };
-    Some(Made(format!("R ##{after} S"), instead))
+    Some(fitting(own, instead))
+}
+
+/// `R ##m S`, or `R ##[m:n] S` with a number above 15.
+fn joined(m: u8, n: u8) -> String {
+    let gap = |m: u8| format!("(R ##1 {} ##1 S)", between("1", m - 1, n.saturating_sub(1)));
+    match m {
+        m if m == n => format!("R {} S", apart(m)),
+        _ if n <= SHORT => format!("(R ##[{m}:{n}] S)"),
+        0 => format!("((R ##0 S) or {})", gap(1)),
+        m => gap(m),
+    }
 }
 
 /// The hint for a delay with nothing before it, by what follows `##` without blanks.
 pub fn leading_delay(after: &str) -> Option<Hint> {
-    let form = format!("##{after} R");
+    let own = format!("##{after} R");
     let instead = match without_end(after) {
-        Some(m) if m > MOST + 1 => return Some(Told(counts::too_large())),
         Some(0) => "(1[*0] or 1[*1:$]) ##1 R".to_string(),
         Some(1) => "1[*1:$] ##1 R".to_string(),
-        Some(m) => format!("1 ##{} 1[*1:$] ##1 R", m - 1),
+        Some(m) => format!("1 {} 1[*1:$] ##1 R", apart(m - 1)),
         None => {
             let (m, n) = counts::pair(brackets(after).unwrap_or(after))?;
-            return Some(forwards(m, n?, leading));
+            return Some(forwards(own, m, n?, |m, n| {
+                (format!("{} R", delayed(m, n)), leading(m, n))
+            }));
         }
     };
-    Some(Made(form, instead))
+    Some(fitting(own, instead))
 }
 
 /// `##m R` or `##[m:n] R`.
-fn leading(m: u8, n: u8) -> Hint {
-    let form = format!("{} R", delayed(m, n));
+fn leading(m: u8, n: u8) -> String {
     match (m, n) {
-        (0, 0) => Made(form, "R".to_string()),
-        (0, n) => Made(form, format!("1[*0:{n}] ##1 R")),
-        _ => Made(form.clone(), format!("1 {form}")),
+        (0, 0) => "R".to_string(),
+        _ if m == n => format!("1 {} R", apart(m)),
+        (1.., ..=SHORT) => format!("1 ##[{m}:{n}] R"),
+        _ => format!("{} ##1 R", between("1", m, n)),
     }
 }
 
@@ -141,14 +213,6 @@ fn delayed(m: u8, n: u8) -> String {
     match m == n {
         true => format!("##{m}"),
         false => format!("##[{m}:{n}]"),
-    }
-}
-
-/// What ends m to n samples after the first.
-fn later(m: u8, n: u8) -> String {
-    match (m, n) {
-        (0, 0) => "1".to_string(),
-        _ => format!("1 {} 1", delayed(m, n)),
     }
 }
 
@@ -163,48 +227,75 @@ pub fn takes_numbers(word: &str) -> bool {
 /// `#-#` does, and a weak one does not, as `|->`.
 pub fn prefix(word: &str, inside: &str) -> Hint {
     // something else than numbers gets an example
-    let (m, n) = counts::pair(inside).unwrap_or((2, Some(3)));
+    let example = if word.ends_with("nexttime") {
+        "2"
+    } else {
+        "2:3"
+    };
+    let (inside, (m, n)) = match counts::pair(inside) {
+        Some(numbers) => (inside, numbers),
+        None => (example, (2, Some(3))),
+    };
+    let own = format!("{word}[{inside}] P");
     match (word, n) {
-        ("nexttime" | "s_nexttime", _) => forwards(m, m, |m, _| next(word, m)),
-        (_, Some(n)) => forwards(m, n, |m, n| ranged(word, m, n)),
-        _ if m > MOST => Told(counts::too_large()),
+        ("nexttime" | "s_nexttime", _) => {
+            let number = inside.split(':').next().unwrap_or(inside);
+            fitting(format!("{word}[{number}] P"), next(word, m))
+        }
+        (_, Some(n)) => forwards(own, m, n, |m, n| {
+            (format!("{word}[{m}:{n}] P"), ranged(word, m, n))
+        }),
         ("eventually", _) => unbounded(word, "s_eventually", m),
         ("s_always", _) => unbounded(word, "always", m),
-        _ => endless(word, m),
+        _ => fitting(own, endless(word, m)),
     }
 }
 
-fn next(word: &str, m: u8) -> Hint {
+fn next(word: &str, m: u8) -> String {
     let sign = if word == "nexttime" { "|->" } else { "#-#" };
-    let instead = format!("({} {sign} P)", later(m, m));
-    Made(format!("{word}[{m}] P"), instead)
+    format!("({} {sign} P)", later(m, m))
 }
 
-fn ranged(word: &str, m: u8, n: u8) -> Hint {
-    let (all, before) = (later(m, n), later(m, n.saturating_sub(1)));
+fn ranged(word: &str, m: u8, n: u8) -> String {
+    let (all, before) = (later(m, n), later(m, n.saturating_sub(1).max(m)));
     let last = later(n, n);
-    let instead = match word {
+    match word {
         "always" => format!("({all} |-> P)"),
         "s_eventually" => format!("({all} #-# P)"),
         "eventually" if m == n => format!("({all} |-> P)"),
         "eventually" => format!("(({before} #-# P) or ({last} |-> P))"),
         _ if m == n => format!("({all} #-# P)"),
         _ => format!("(({before} |-> P) and ({last} #-# P))"),
-    };
-    Made(format!("{word}[{m}:{n}] P"), instead)
+    }
 }
 
 /// `always[m:$] P` or `s_eventually[m:$] P`.
-fn endless(word: &str, m: u8) -> Hint {
+fn endless(word: &str, m: u8) -> String {
     let sign = if word == "always" { "|->" } else { "#-#" };
-    let instead = format!("({} {sign} {word} P)", later(m, m));
-    Made(format!("{word}[{m}:$] P"), instead)
+    format!("({} {sign} {word} P)", later(m, m))
 }
 
 /// A word that needs a last number, and the one that does not.
 fn unbounded(word: &str, other: &str, m: u8) -> Hint {
-    Told(format!(
-        "{word} counts to a number and not to $, and {}",
-        endless(other, m)
-    ))
+    let words = format!("{word} counts to a number and not to $");
+    let (own, instead) = (format!("{other}[{m}:$] P"), endless(other, m));
+    match fits(&instead) {
+        true => Turned(words, own, instead),
+        false => Told(words),
+    }
+}
+
+/// The hint for `$past(a, n)`: a boolean looks back one sample, and a sequence as many as it has.
+pub fn past(signal: &str, number: &str) -> Option<Hint> {
+    let (n, _) = counts::pair(number)?;
+    let own = format!("$past({signal}, {number})");
+    let back = format!("{signal} {} 1 |-> P", apart(n));
+    Some(match n {
+        0 => Made(own, signal.to_string()),
+        _ if !fits(&format!("(b {} 1 |-> P)", apart(n))) => Vast(own),
+        _ => Told(format!(
+            "`{own}` looks back {n} samples, and a boolean looks back one: what begins {n} samples earlier says \
+             it, as in `{back}`"
+        )),
+    })
 }

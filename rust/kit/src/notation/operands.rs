@@ -1,4 +1,5 @@
 //! Reading operands: prefixes, parentheses, constants and names.
+use super::foreign::bit;
 use super::hints;
 use super::levels::{CLOCK, NEGATION, PREFIX};
 use super::lexer::{Kind, Place, Token};
@@ -112,7 +113,7 @@ impl Parser<'_> {
     fn prefix(&mut self, operator: Operator, level: u8) -> Result<Part, Mistake> {
         let sign = self.take();
         if hints::takes_numbers(sign.text) && self.peek().text == "[" {
-            return Err(self.counted_prefix(sign));
+            return Err(self.counted_prefix(sign, level));
         }
         // `!` makes a boolean of one, the others a property
         let operand = self.part(level, Wanted::Sort(operator.sort()))?;
@@ -143,9 +144,9 @@ impl Parser<'_> {
             (_, "weak") => Operator::Weak,
             (_, "rose") => return self.edge(Operator::Rose),
             (_, "fell") => return self.edge(Operator::Fell),
-            (_, "##") => return Err(self.leading_delay()),
+            (_, "##") => return Err(self.leading_delay(wanted)),
             (Kind::Number, _) => return self.constant(),
-            (Kind::Word, name) if !RESERVED.contains(&name) => return self.name(),
+            (Kind::Word, name) if !RESERVED.contains(&name) => return self.name(wanted),
             _ => return Err(self.no_operand(token, wanted)),
         };
         self.take();
@@ -156,18 +157,17 @@ impl Parser<'_> {
     }
 
     /// The message where a part is wanted and none begins.
-    fn no_operand(&self, token: Token, wanted: Wanted) -> Mistake {
-        match token.text {
-            "signals" => {
-                let words = "lines with signals stand before those with let";
-                self.mistake(token.start, words.to_string())
-            }
-            _ => self.unexpected(wanted.called()),
+    fn no_operand(&mut self, token: Token, wanted: Wanted) -> Mistake {
+        if token.text == "signals" {
+            let words = "lines with signals stand before those with let";
+            return self.mistake(token.start, words.to_string());
         }
+        let foreign = self.foreign_operand(wanted);
+        foreign.unwrap_or_else(|| self.unexpected(wanted.called()))
     }
 
     /// A part in parentheses.
-    fn enclosed(&mut self, wanted: Wanted, expected: &str) -> Result<Part, Mistake> {
+    pub fn enclosed(&mut self, wanted: Wanted, expected: &str) -> Result<Part, Mistake> {
         let opening = self.peek();
         if opening.text != "(" {
             return Err(self.unexpected(expected));
@@ -207,7 +207,11 @@ impl Parser<'_> {
             "1" => 1,
             _ => {
                 let stands = shortened(token.text);
-                let words = format!("the constants are 0 and 1, and here stands `{stands}`");
+                let hint = match bit(token) {
+                    Some(value) => format!(": write {}", u8::from(value)),
+                    None => String::new(),
+                };
+                let words = format!("the constants are 0 and 1, and here stands `{stands}`{hint}");
                 return Err(self.mistake(token.start, words));
             }
         };
@@ -216,7 +220,7 @@ impl Parser<'_> {
     }
 
     /// A signal, or a boolean that was given a name.
-    fn name(&mut self) -> Result<Part, Mistake> {
+    fn name(&mut self, wanted: Wanted) -> Result<Part, Mistake> {
         let token = self.peek();
         if let Some(number) = self.number(token.text) {
             self.take();
@@ -224,10 +228,14 @@ impl Parser<'_> {
         }
         let Some(index) = self.defined(token.text) else {
             if hints::takes_numbers(token.text) && self.second().text == "[" {
+                if wanted == Wanted::Sort(Sort::Sequence) {
+                    return Err(self.no_sequence(token));
+                }
                 self.take();
-                return Err(self.counted_prefix(token));
+                return Err(self.counted_prefix(token, CLOCK));
             }
-            return Err(self.unknown(token));
+            let foreign = self.foreign_operand(wanted);
+            return Err(foreign.unwrap_or_else(|| self.unknown(token)));
         };
         self.take();
         Ok(Part {

@@ -1,6 +1,6 @@
 //! Reading what joins two parts, and repetitions.
 use super::counts::{self, Counted};
-use super::hints::{self, Hint};
+use super::hints;
 use super::levels::{AND, BOTH, DELAY, EITHER, IMPLIES, OR, UNTIL};
 use super::lexer::{Kind, Place, Token};
 use super::mistake::Mistake;
@@ -36,6 +36,7 @@ impl Parser<'_> {
         let text = self.peek().text;
         let Some(&(_, level, from_right, operator)) = JOINING.iter().find(|row| row.0 == text)
         else {
+            self.foreign_join(left, least, whole)?;
             return Ok(None);
         };
         if level < least {
@@ -47,10 +48,11 @@ impl Parser<'_> {
         }
         let sign = self.take();
         let (operator, fourth) = match operator {
-            Operator::Then => self.delay(sign)?,
+            Operator::Then => self.delay(left, sign)?,
             other => (other, 0),
         };
         let wanted = match operator {
+            Operator::PropertyOr if left.sort == Sort::Property => Wanted::Sort(Sort::Property),
             Operator::PropertyOr => whole.either(),
             other => match other.operands() {
                 [_, right] => Wanted::Sort(*right),
@@ -73,6 +75,10 @@ impl Parser<'_> {
             Operator::PropertyOr if !properties => Operator::Either,
             other => other,
         };
+        let booleans = [left, right].iter().all(|part| part.sort == Sort::Boolean);
+        if operator == Operator::PropertyAnd && booleans && !self.stray() {
+            return Err(self.booleans_joined(left, right));
+        }
         let x = self.operand_of(operator, 0, left, left.start)?;
         let y = self.operand_of(operator, 1, right, left.start)?;
         let index = self.counted((operator, fourth), x, y, sign.start)?;
@@ -85,14 +91,23 @@ impl Parser<'_> {
         })
     }
 
-    fn delay(&mut self, sign: Token) -> Result<Counted, Mistake> {
+    /// The operator of a delay; its mistake tells what stands on both sides of it.
+    fn delay(&mut self, left: Part, sign: Token) -> Result<Counted, Mistake> {
         let after = self.after_delay()?;
-        let found = counts::delay(&after);
-        self.good(found, sign.start, || hints::delay(&after))
+        let words = match counts::delay(&after) {
+            Ok(Some(counted)) => return Ok(counted),
+            Ok(None) => {
+                let right = self.part(DELAY + 1, Wanted::Sort(Sort::Sequence)).ok();
+                let parts = [('R', Some(left)), ('S', right)];
+                self.told_with(hints::delay(&after), &parts)
+            }
+            Err(words) => words,
+        };
+        Err(self.mistake(sign.start, words))
     }
 
     /// Takes what follows `##`, a number, or two in brackets, and answers it without blanks.
-    fn after_delay(&mut self) -> Result<String, Mistake> {
+    pub fn after_delay(&mut self) -> Result<String, Mistake> {
         Ok(match self.peek() {
             token if token.text == "[" => format!("[{}]", self.inside()?),
             token if token.kind == Kind::Number => self.take().text.to_string(),
@@ -100,22 +115,18 @@ impl Parser<'_> {
         })
     }
 
-    /// The mistake of a `##` with nothing before it.
-    pub fn leading_delay(&mut self) -> Mistake {
-        let sign = self.take();
-        match self.after_delay() {
-            Ok(after) => self.mistake(sign.start, hints::leading_delay(&after).to_string()),
-            Err(mistake) => mistake,
-        }
-    }
-
-    /// The mistake of numbers in brackets after a word that stands before a property.
-    pub fn counted_prefix(&mut self, word: Token) -> Mistake {
+    /// The mistake of numbers in brackets after a word that stands before a property, which binds as tightly as a
+    /// level says.
+    pub fn counted_prefix(&mut self, word: Token, level: u8) -> Mistake {
         let bracket = self.peek().start;
-        match self.inside() {
-            Ok(inside) => self.mistake(bracket, hints::prefix(word.text, &inside).to_string()),
-            Err(mistake) => mistake,
-        }
+        let inside = match self.inside() {
+            Ok(inside) => inside,
+            Err(mistake) => return mistake,
+        };
+        let property = self.part(level, Wanted::Any).ok();
+        let hint = hints::prefix(word.text, &inside);
+        let words = self.told_with(hint, &[('P', property)]);
+        self.mistake(bracket, words)
     }
 
     /// The repetitions after a part.
@@ -123,8 +134,7 @@ impl Parser<'_> {
         while self.peek().text == "[" {
             let bracket = self.peek().start;
             let inside = self.inside()?;
-            let found = counts::repetition(&inside);
-            let counted = self.good(found, bracket, || hints::repetition(&inside))?;
+            let counted = self.repetition(part, &inside, bracket)?;
             let x = self.operand_of(counted.0, 0, part, part.start)?;
             let built = self.built_counted(counted, x, 0, part.start)?;
             part = Part {
@@ -135,17 +145,21 @@ impl Parser<'_> {
         Ok(part)
     }
 
-    /// An operator with good numbers, or the mistake at a place: what is wrong with them, or the hint for
-    /// a form that is not part of the notation.
-    fn good(
-        &self,
-        found: Result<Option<Counted>, String>,
-        place: Place,
-        hint: impl Fn() -> Hint,
-    ) -> Result<Counted, Mistake> {
-        let words = match found {
+    /// The operator of a repetition, or its mistake: what is wrong with the part or with the numbers, or the hint
+    /// for a form that is not part of the notation.
+    fn repetition(&mut self, part: Part, inside: &str, place: Place) -> Result<Counted, Mistake> {
+        let words = match counts::repetition(inside) {
             Ok(Some(counted)) => return Ok(counted),
-            Ok(None) => hint().to_string(),
+            Ok(None) => {
+                if let Some((operator, _)) = counts::split(inside) {
+                    self.operand_of(operator, 0, part, part.start)?;
+                }
+                let letter = match inside.starts_with(['-', '=']) {
+                    true => 'b',
+                    false => 'R',
+                };
+                self.told_with(hints::repetition(inside), &[(letter, Some(part))])
+            }
             Err(words) => words,
         };
         Err(self.mistake(place, words))

@@ -142,6 +142,12 @@ impl<'a> Parser<'a> {
         self.in_line(self.lexer.clone().token())
     }
 
+    /// The tokens after the one ahead, up to the end of the text.
+    pub fn upcoming(&self) -> impl Iterator<Item = Token<'a>> {
+        let mut lexer = self.lexer.clone();
+        std::iter::from_fn(move || Some(lexer.token()).filter(|token| token.kind != Kind::End))
+    }
+
     /// Takes the token ahead.
     pub fn take(&mut self) -> Token<'a> {
         let token = self.ahead;
@@ -265,6 +271,7 @@ impl<'a> Parser<'a> {
         let operators = ["and", "or", "until", "s_until"].into_iter();
         let near = names::nearest(&token.text.to_lowercase(), operators);
         let words = match (token.kind, hints::of(token.text), near) {
+            (_, Some(_), _) if unknown && self.begins_action() => hints::ACTION.to_string(),
             (_, Some(hint), _) if unknown => hint.to_string(),
             (Kind::End, ..) => {
                 let all = self.line.map_or("the text", |_| "the line");

@@ -1,6 +1,8 @@
 //! The sort of each part of a text, and what is made of it where another sort is due.
+use super::forms::{bare, tight};
 use super::lexer::{Kind, Place, Token};
 use super::mistake::Mistake;
+use super::own::{turned, STRENGTH};
 use super::parser::Parser;
 use super::RESERVED;
 use crate::assertion::{Operator, Sort};
@@ -9,7 +11,7 @@ use crate::assertion::{Operator, Sort};
 const REPEATED: usize = 40;
 
 /// The signs of implications.
-const IMPLICATIONS: [&str; 4] = ["|->", "|=>", "#-#", "#=#"];
+pub const IMPLICATIONS: [&str; 4] = ["|->", "|=>", "#-#", "#=#"];
 
 /// A part that was read: its node, and where it stands in the text.
 #[derive(Clone, Copy, Debug)]
@@ -64,7 +66,7 @@ impl Parser<'_> {
                     Sort::Property if last && self.stray() => {
                         return Err(self.unexpected("an operator"));
                     }
-                    Sort::Property => self.property_hint(operator, part, last).to_string(),
+                    Sort::Property => self.property_hint(operator, part, last),
                     Sort::Sequence => String::new(),
                 };
                 Err(self.wrong_sort(part, due, &hint))
@@ -74,7 +76,7 @@ impl Parser<'_> {
 
     /// Whether the token ahead goes on with a part and is no operator. Where the part does not fit,
     /// this is the mistake to tell: `a |-> b before c`.
-    fn stray(&self) -> bool {
+    pub fn stray(&self) -> bool {
         let Token { kind, text, .. } = self.peek();
         let word = kind == Kind::Word && !RESERVED.contains(&text);
         kind == Kind::Foreign || word && !self.starts_line()
@@ -127,24 +129,51 @@ impl Parser<'_> {
     }
 
     /// What to write where a property is due and something else stands.
-    fn property_hint(&self, operator: Operator, part: Part, last: bool) -> &'static str {
+    fn property_hint(&self, operator: Operator, part: Part, last: bool) -> String {
         let implication = last && IMPLICATIONS.contains(&self.peek().text);
-        match (operator, part.sort) {
-            (Operator::PropertyNot, Sort::Boolean) if implication => {
-                ": write ! to turn a boolean round, or parentheses around the implication"
-            }
-            _ if implication => ": an implication here needs parentheses around it",
-            (Operator::PropertyNot, Sort::Boolean) => {
-                ": write ! to turn a boolean round, or strong(..) or weak(..) around it"
-            }
-            (Operator::PropertyAnd, Sort::Boolean) => {
-                ": write & to join booleans, or strong(..) or weak(..) around each"
-            }
-            _ => {
-                ": write strong(..) or weak(..): strong must match in the record, weak must only not \
-                 be ruled out"
-            }
+        let not = operator == Operator::PropertyNot && part.sort == Sort::Boolean;
+        let own = self.own(part).unwrap_or("..");
+        let text = bare(own);
+        match (not, implication) {
+            (true, true) => format!(
+                ": for `not {own}` write `{}`, or put parentheses around the implication",
+                turned(text)
+            ),
+            (true, false) => format!(
+                ": for `not {own}` write `strong({})` or `not strong({text})`",
+                turned(text)
+            ),
+            (_, true) => ": an implication here needs parentheses around it".to_string(),
+            _ => format!(": write `strong({text})` or `weak({text})`: {STRENGTH}"),
         }
+    }
+
+    /// The mistake of two booleans that `and` joins.
+    pub fn booleans_joined(&self, left: Part, right: Part) -> Mistake {
+        let [a, b] = [left, right].map(|part| self.own(part).unwrap_or(".."));
+        let both = self.joined_by_sign(left, right);
+        let hint = match IMPLICATIONS.contains(&self.peek().text) {
+            true => format!(": for `{a} and {b}` write `{both}`"),
+            false => {
+                let each = [a, b].map(|text| format!("strong({})", bare(text)));
+                let each = each.join(" and ");
+                format!(": for `{a} and {b}` write `strong({both})` or `{each}`")
+            }
+        };
+        self.wrong_sort(left, Sort::Property, &hint)
+    }
+
+    /// `a & b`, with parentheses around what binds less tightly.
+    fn joined_by_sign(&self, left: Part, right: Part) -> String {
+        let operand = |part: Part| {
+            let text = self.own(part).unwrap_or("..");
+            let loose = self.operator(part.index) == Some(Operator::Or) && !tight(text);
+            match loose {
+                true => format!("({text})"),
+                false => text.to_string(),
+            }
+        };
+        format!("{} & {}", operand(left), operand(right))
     }
 
     /// A part of the text as a message repeats it: its first line, cut where it is long.

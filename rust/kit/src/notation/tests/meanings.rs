@@ -36,8 +36,8 @@ pub fn written(hint: Hint) -> Option<(String, String)> {
         Hint::Written(form, instead) | Hint::Noted(form, instead, _) => {
             Some((form.to_string(), instead.to_string()))
         }
-        Hint::Made(form, instead) => Some((form, instead)),
-        Hint::Words(_) | Hint::Told(_) => None,
+        Hint::Made(form, instead) | Hint::Turned(_, form, instead) => Some((form, instead)),
+        Hint::Vast(_) | Hint::Words(_) | Hint::Told(_) => None,
     }
 }
 

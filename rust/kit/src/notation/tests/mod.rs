@@ -1,9 +1,11 @@
 //! Tests of the notation.
 mod bytes;
+mod chains;
 mod comment;
 mod declaring;
 mod derived;
 mod edges;
+mod following;
 mod meanings;
 mod mistakes;
 mod numbered;

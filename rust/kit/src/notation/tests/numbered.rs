@@ -13,12 +13,12 @@ pub fn rewritings() -> Vec<(String, String)> {
         all.extend([format!("{m}"), format!("[{m}:$]")].map(|it| hints::leading_delay(&it)));
         all.extend(["nexttime", "s_nexttime"].map(|word| hints::prefix(word, &m.to_string())));
         all.extend(["always", "s_eventually"].map(|word| hints::prefix(word, &format!("{m}:$"))));
-        for n in m..=4 {
+        for n in m..=7 {
             let range = format!("{m}:{n}");
             all.extend(RANGED.map(|word| hints::prefix(word, &range)));
             all.push(hints::leading_delay(&format!("[{range}]")));
         }
-        for n in m..m + 4 {
+        for n in m..m + 3 {
             all.extend(["->", "="].map(|sign| hints::repetition(&format!("{sign}{m}:{n}"))));
         }
     }
@@ -52,35 +52,35 @@ fn large(text: &str) -> bool {
 #[test]
 fn the_numbers_are_the_ones_given() {
     let cases = [
-        ("a[*3:$]", 2, "`R[*3:$]` is written `(R[*2] ##1 R[*1:$])`"),
+        ("a[*3:$]", 2, "`a[*3:$]` is written `(a[*2] ##1 a[*1:$])`"),
         ("b[->2:$]", 2, "`b[->2:$]` is written `(b[->1] ##1 b[->1][*1:$])`"),
         ("b[->3:$]", 2, "`b[->3:$]` is written `(b[->2] ##1 b[->1][*1:$])`"),
         ("b[=0:$]", 2, "`b[=0:$]` is written `((b[*0] or b[->1][*1:$]) ##1 b[=0])`"),
         ("b[->2:2]", 2, "`b[->2:2]` is written `b[->2]`"),
-        ("b[->3:1]", 2, "3 to 1 counts backwards: `b[->1:3]` is written `(b[->1] or b[->2] or b[->3])`"),
-        ("b[=2:1]", 2, "2 to 1 counts backwards: `b[=1:2]` is written `(b[=1] or b[=2])`"),
-        ("b[->1:5]", 2, "`b[->1:5]` stands for `b[->1]` to `b[->5]`, joined by or, and more than 4 of these pass the 120 nodes of a table"),
-        ("b[=1:16]", 2, "numbers go to 15 at most: two repetitions or delays in a row go further"),
-        ("a[*17:$]", 2, "numbers go to 15 at most: two repetitions or delays in a row go further"),
-        ("a[*99999999999999999999:$]", 2, "numbers go to 15 at most: two repetitions or delays in a row go further"),
-        ("a ##[3:$] b", 3, "`R ##[3:$] S` is written `(R ##2 1[*1:$] ##1 S)`"),
-        ("a |=> ##2 b", 7, "`##2 R` is written `1 ##2 R`"),
-        ("a |=> ##[1:3] b", 7, "`##[1:3] R` is written `1 ##[1:3] R`"),
-        ("a |=> ##[3:1] b", 7, "3 to 1 counts backwards: `##[1:3] R` is written `1 ##[1:3] R`"),
-        ("##[0:2] b", 1, "`##[0:2] R` is written `1[*0:2] ##1 R`"),
-        ("##0 b", 1, "`##0 R` is written `R`"),
+        ("b[->3:1]", 2, "3 to 1 counts backwards: `b[->1:3]` is written `(b[->1] ##1 (b[*0] or ((!b)[*0] or (!b)[*1:$]) ##1 b)[*2])`"),
+        ("b[=2:1]", 2, "2 to 1 counts backwards: `b[=1:2]` is written `(b[->1] ##1 (b[*0] or ((!b)[*0] or (!b)[*1:$]) ##1 b) ##1 b[=0])`"),
+        ("b[->1:10]", 2, "`b[->1:10]` is written out to more than the 120 nodes of a table"),
+        ("b[=1:16]", 2, "`b[=1:16]` is written out to more than the 120 nodes of a table"),
+        ("a[*17:$]", 2, "`a[*17:$]` is written `(a[*15] ##1 a ##1 a[*1:$])`"),
+        ("a[*99999999999999999999:$]", 2, "`a[*99999999999999999999:$]` is written out to more than the 120 nodes of a table"),
+        ("a ##[3:$] b", 3, "`a ##[3:$] b` is written `(a ##2 1[*1:$] ##1 b)`"),
+        ("a |=> ##2 b", 7, "`##2 b` is written `strong(1 ##2 b)` or `weak(1 ##2 b)`: strong must match in the record, weak must only not be ruled out"),
+        ("a |=> ##[1:3] b", 7, "`##[1:3] b` is written `strong(1 ##[1:3] b)` or `weak(1 ##[1:3] b)`: strong must match in the record, weak must only not be ruled out"),
+        ("a |=> ##[3:1] b", 7, "3 to 1 counts backwards: `##[1:3] b` is written `strong(1 ##[1:3] b)` or `weak(1 ##[1:3] b)`: strong must match in the record, weak must only not be ruled out"),
+        ("##[0:2] b", 1, "`##[0:2] b` is written `1[*0:2] ##1 b`"),
+        ("##0 b", 1, "`##0 b` is written `b`"),
         ("## b", 1, "a delay is written `R ##3 S` or `R ##[1:4] S`"),
-        ("nexttime[0] strong(a)", 9, "`nexttime[0] P` is written `(1 |-> P)`"),
-        ("nexttime [ 2 ] strong(a)", 10, "`nexttime[2] P` is written `(1 ##2 1 |-> P)`"),
-        ("nexttime[16] strong(a)", 9, "numbers go to 15 at most: two repetitions or delays in a row go further"),
-        ("nexttime[a] strong(a)", 9, "`nexttime[2] P` is written `(1 ##2 1 |-> P)`"),
-        ("s_nexttime[1] strong(a)", 11, "`s_nexttime[1] P` is written `(1 ##1 1 #-# P)`"),
-        ("always [2:$] strong(a)", 8, "`always[2:$] P` is written `(1 ##2 1 |-> always P)`"),
-        ("always [3:1] strong(a)", 8, "3 to 1 counts backwards: `always[1:3] P` is written `(1 ##[1:3] 1 |-> P)`"),
-        ("s_eventually [1:3] strong(a)", 14, "`s_eventually[1:3] P` is written `(1 ##[1:3] 1 #-# P)`"),
-        ("eventually [1:3] strong(a)", 12, "`eventually[1:3] P` is written `((1 ##[1:2] 1 #-# P) or (1 ##3 1 |-> P))`"),
-        ("eventually [2:$] strong(a)", 12, "eventually counts to a number and not to $, and `s_eventually[2:$] P` is written `(1 ##2 1 #-# s_eventually P)`"),
-        ("s_always [1:2] strong(a)", 10, "`s_always[1:2] P` is written `((1 ##1 1 |-> P) and (1 ##2 1 #-# P))`"),
+        ("nexttime[0] strong(a)", 9, "`nexttime[0] strong(a)` is written `(1 |-> strong(a))`"),
+        ("nexttime [ 2 ] strong(a)", 10, "`nexttime[2] strong(a)` is written `(1 ##2 1 |-> strong(a))`"),
+        ("nexttime[16] strong(a)", 9, "`nexttime[16] strong(a)` is written `(1 ##15 1 ##1 1 |-> strong(a))`"),
+        ("nexttime[a] strong(a)", 9, "`nexttime[2] strong(a)` is written `(1 ##2 1 |-> strong(a))`"),
+        ("s_nexttime[1] strong(a)", 11, "`s_nexttime[1] strong(a)` is written `(1 ##1 1 #-# strong(a))`"),
+        ("always [2:$] strong(a)", 8, "`always[2:$] strong(a)` is written `(1 ##2 1 |-> always strong(a))`"),
+        ("always [3:1] strong(a)", 8, "3 to 1 counts backwards: `always[1:3] strong(a)` is written `(1 ##[1:3] 1 |-> strong(a))`"),
+        ("s_eventually [1:3] strong(a)", 14, "`s_eventually[1:3] strong(a)` is written `(1 ##[1:3] 1 #-# strong(a))`"),
+        ("eventually [1:3] strong(a)", 12, "`eventually[1:3] strong(a)` is written `((1 ##[1:2] 1 #-# strong(a)) or (1 ##3 1 |-> strong(a)))`"),
+        ("eventually [2:$] strong(a)", 12, "eventually counts to a number and not to $: `s_eventually[2:$] strong(a)` is written `(1 ##2 1 #-# s_eventually strong(a))`"),
+        ("s_always [1:2] strong(a)", 10, "`s_always[1:2] strong(a)` is written `((1 ##1 1 |-> strong(a)) and (1 ##2 1 #-# strong(a)))`"),
     ];
     for (text, column, words) in cases {
         assert_eq!(mistake(text), (2, column, words.to_string()), "{text}");
@@ -169,7 +169,7 @@ fn definitions(r: &Matches, s: &Matches, samples: usize) -> Vec<(Hint, Matches)>
         all.push((hints::delay(&format!("[{m}:$]")), from(m)));
         all.push((hints::leading_delay(&m.to_string()), after(m, m)));
         all.push((hints::leading_delay(&format!("[{m}:$]")), after(m, 9)));
-        for n in m..=4 {
+        for n in m..=7 {
             all.push((hints::leading_delay(&format!("[{m}:{n}]")), after(m, n)));
         }
     }
@@ -248,12 +248,60 @@ fn properties_with_numbers_mean_what_they_stand_for() {
                 let hint = hints::prefix(word, &format!("{m}:$"));
                 compare(hint, wanted(&|w| w.ranged(word, m, 9)));
             }
-            for (n, word) in (m..=4).flat_map(|n| RANGED.map(|word| (n, word))) {
+            for (n, word) in (m..=7).flat_map(|n| RANGED.map(|word| (n, word))) {
                 let hint = hints::prefix(word, &format!("{m}:{n}"));
                 compare(hint, wanted(&|w| w.ranged(word, m, n)));
             }
         }
     }
+}
+
+/// A delay before a property that must match, or must not be ruled out: it goes inside strong or weak, and of any
+/// property it asks it where the delay ends, so far as the record goes with strong and `#-#`.
+#[test]
+fn a_delay_before_a_property_means_what_its_forms_say() {
+    let (mut judge, random) = (Judge::new(), &mut Random(16));
+    for _ in 0..60 {
+        let samples = random.samples(6);
+        let r = random.pick(&["a", "a ##1 b", "a or b ##1 a", "a[*1:$] ##0 b", "@(c) a"]);
+        for after in ["0", "1", "2", "[1:3]", "[0:2]", "[2:6]", "[1:$]"] {
+            let inside = filled(&instead(hints::leading_delay(after)), &[('R', r)]);
+            let ends = filled(&instead(hints::leading_delay(after)), &[('R', "1")]);
+            let [strong, followed] = [
+                format!("strong({inside})"),
+                format!("{ends} #-# strong({r})"),
+            ]
+            .map(|text| rows(&mut judge, &text, &samples));
+            assert_eq!(strong, followed, "##{after} {r} on {samples:?}");
+            if after.starts_with('[') {
+                continue;
+            }
+            let [weak, implied] = [format!("weak({inside})"), format!("{ends} |-> weak({r})")]
+                .map(|text| rows(&mut judge, &text, &samples));
+            assert_eq!(weak, implied, "##{after} {r} on {samples:?}");
+        }
+    }
+}
+
+/// a is 1 at each of 20 samples, and b at 17 and 18 alone.
+#[test]
+fn numbers_above_15_mean_what_they_say() {
+    let (mut judge, mut samples) = (Judge::new(), [1; 20]);
+    (samples[17], samples[18]) = (3, 3);
+    let mut ends = |hint: Hint| {
+        let text = filled(&instead(hint), &[('R', "a"), ('S', "b")]);
+        judge.match_ends(&table(&text), &samples, 0).unwrap().mask
+    };
+    let range = |from: usize, to: usize| (from..=to).fold(0, |mask, end| mask | 1u64 << end);
+    assert_eq!(ends(hints::repetition("*17")), 1 << 17);
+    assert_eq!(ends(hints::repetition("*2:17")), range(2, 17));
+    assert_eq!(ends(hints::repetition("*18:$")), range(18, 20));
+    assert_eq!(ends(hints::delay("17")), 1 << 18);
+    assert_eq!(ends(hints::delay("[16:17]")), 1 << 18);
+    assert_eq!(ends(hints::delay("[0:18]")), 1 << 18 | 1 << 19);
+    assert_eq!(ends(hints::delay("[18:$]")), 1 << 19);
+    assert_eq!(ends(hints::leading_delay("17")), 1 << 18);
+    assert_eq!(ends(hints::leading_delay("[2:17]")), range(3, 18));
 }
 
 /// What source 000 writes out for a word with a range, by nexttime, and, or and not.

@@ -89,7 +89,9 @@ fn the_page_says_how_other_operators_are_written() {
         hints::of("never").unwrap(),
         hints::of("$past").unwrap(),
         hints::repetition("*0:$"),
-        hints::repetition("->1:2"),
+        hints::repetition("->1:3"),
+        hints::leading_delay("2"),
+        hints::prefix("always", "1:9"),
         hints::prefix("nexttime", "2"),
         hints::prefix("eventually", "1:3"),
     ] {
