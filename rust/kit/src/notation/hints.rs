@@ -1,7 +1,8 @@
 //! What people write who know SystemVerilog or another language, and what to write instead.
 use super::forms::{filled, written, Texts};
 use super::numbered;
-pub use super::numbered::{past, prefix, takes_numbers};
+pub use super::numbered::past;
+pub use super::prefixes::{prefix, takes_numbers};
 use crate::assertion::MOST_NODES;
 use std::fmt;
 
@@ -372,7 +373,7 @@ pub const FUNCTIONS: [(&str, Hint); 5] = [
 ];
 
 /// What may stand between `[` and `]`.
-const REPETITIONS: [(&str, Hint); 2] = [
+pub const REPETITIONS: [(&str, Hint); 2] = [
     ("+", Written("R[+]", "R[*1:$]")),
     ("*", Written("R[*]", "(R[*0] or R[*1:$])")),
 ];

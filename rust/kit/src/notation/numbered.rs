@@ -3,12 +3,12 @@
 use super::counts::{self, MOST};
 use super::forms::filled;
 use super::hints::Hint::{self, Made, Told, Turned, Vast};
-use super::spans::{apart, between, later, times, SHORT};
+use super::spans::{apart, between, times, SHORT};
 use crate::assertion::Operator;
 
 /// What is written for a form, or that it is too large. `own` has the numbers as they were given; where they
 /// stand backwards, they are turned round.
-fn forwards(own: String, m: u8, n: u8, made: impl Fn(u8, u8) -> (String, String)) -> Hint {
+pub fn forwards(own: String, m: u8, n: u8, made: impl Fn(u8, u8) -> (String, String)) -> Hint {
     let (form, instead) = made(m.min(n), m.max(n));
     match m > n {
         _ if !fits(&instead) => Vast(own),
@@ -26,7 +26,7 @@ fn limited(hint: Hint) -> Hint {
 }
 
 /// What is written for a form, or that it is too large.
-fn fitting(own: String, instead: String) -> Hint {
+pub fn fitting(own: String, instead: String) -> Hint {
     match fits(&instead) {
         true => Made(own, instead),
         false => Vast(own),
@@ -34,7 +34,7 @@ fn fitting(own: String, instead: String) -> Hint {
 }
 
 /// Whether a form is written out to 120 nodes at most, with the smallest parts in it.
-fn fits(form: &str) -> bool {
+pub fn fits(form: &str) -> bool {
     let small = [('P', "strong(b)"), ('R', "b"), ('S', "b")];
     let small = small.map(|(letter, text)| (letter, text.to_string()));
     let whole = match form.contains('P') {
@@ -213,75 +213,6 @@ fn delayed(m: u8, n: u8) -> String {
     match m == n {
         true => format!("##{m}"),
         false => format!("##[{m}:{n}]"),
-    }
-}
-
-/// Whether SystemVerilog has a word before a property with numbers in brackets.
-pub fn takes_numbers(word: &str) -> bool {
-    let weak = ["nexttime", "always", "eventually"];
-    weak.contains(&word.strip_prefix("s_").unwrap_or(word))
-}
-
-/// The hint for what stands in brackets after such a word, without blanks. Source 000 (F.2.3.2.8) joins a nexttime
-/// for each number; these say the same with P once or twice. A strong word asks that the record goes so far, as
-/// `#-#` does, and a weak one does not, as `|->`.
-pub fn prefix(word: &str, inside: &str) -> Hint {
-    // something else than numbers gets an example
-    let example = if word.ends_with("nexttime") {
-        "2"
-    } else {
-        "2:3"
-    };
-    let (inside, (m, n)) = match counts::pair(inside) {
-        Some(numbers) => (inside, numbers),
-        None => (example, (2, Some(3))),
-    };
-    let own = format!("{word}[{inside}] P");
-    match (word, n) {
-        ("nexttime" | "s_nexttime", _) => {
-            let number = inside.split(':').next().unwrap_or(inside);
-            fitting(format!("{word}[{number}] P"), next(word, m))
-        }
-        (_, Some(n)) => forwards(own, m, n, |m, n| {
-            (format!("{word}[{m}:{n}] P"), ranged(word, m, n))
-        }),
-        ("eventually", _) => unbounded(word, "s_eventually", m),
-        ("s_always", _) => unbounded(word, "always", m),
-        _ => fitting(own, endless(word, m)),
-    }
-}
-
-fn next(word: &str, m: u8) -> String {
-    let sign = if word == "nexttime" { "|->" } else { "#-#" };
-    format!("({} {sign} P)", later(m, m))
-}
-
-fn ranged(word: &str, m: u8, n: u8) -> String {
-    let (all, before) = (later(m, n), later(m, n.saturating_sub(1).max(m)));
-    let last = later(n, n);
-    match word {
-        "always" => format!("({all} |-> P)"),
-        "s_eventually" => format!("({all} #-# P)"),
-        "eventually" if m == n => format!("({all} |-> P)"),
-        "eventually" => format!("(({before} #-# P) or ({last} |-> P))"),
-        _ if m == n => format!("({all} #-# P)"),
-        _ => format!("(({before} |-> P) and ({last} #-# P))"),
-    }
-}
-
-/// `always[m:$] P` or `s_eventually[m:$] P`.
-fn endless(word: &str, m: u8) -> String {
-    let sign = if word == "always" { "|->" } else { "#-#" };
-    format!("({} {sign} {word} P)", later(m, m))
-}
-
-/// A word that needs a last number, and the one that does not.
-fn unbounded(word: &str, other: &str, m: u8) -> Hint {
-    let words = format!("{word} counts to a number and not to $");
-    let (own, instead) = (format!("{other}[{m}:$] P"), endless(other, m));
-    match fits(&instead) {
-        true => Turned(words, own, instead),
-        false => Told(words),
     }
 }
 

@@ -97,7 +97,7 @@ impl Parser<'_> {
         let words = match counts::delay(&after) {
             Ok(Some(counted)) => return Ok(counted),
             Ok(None) => {
-                let right = self.part(DELAY + 1, Wanted::Sort(Sort::Sequence)).ok();
+                let right = self.part_ahead(DELAY + 1);
                 let parts = [('R', Some(left)), ('S', right)];
                 self.told_with(hints::delay(&after), &parts)
             }
@@ -123,7 +123,7 @@ impl Parser<'_> {
             Ok(inside) => inside,
             Err(mistake) => return mistake,
         };
-        let property = self.part(level, Wanted::Any).ok();
+        let property = self.part_ahead(level);
         let hint = hints::prefix(word.text, &inside);
         let words = self.told_with(hint, &[('P', property)]);
         self.mistake(bracket, words)

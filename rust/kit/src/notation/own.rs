@@ -1,9 +1,11 @@
 //! The parts of a text as a proposal repeats them: whole, or not at all.
 use super::forms::{bare, tight};
 use super::hints::Hint;
+use super::operands::Wanted;
 use super::parser::Parser;
 use super::sorts::Part;
 use crate::assertion::Sort;
+use crate::words::unseen;
 
 /// The characters of a part that a proposal repeats, at most.
 const LONGEST: usize = 100;
@@ -15,11 +17,17 @@ pub const STRENGTH: &str = "strong must match in the record, weak must only not 
 type Read = (char, Option<Part>);
 
 impl Parser<'_> {
+    /// Reads a part for a hint alone; none where there is a mistake in it.
+    pub fn part_ahead(&mut self, least: u8) -> Option<Part> {
+        self.for_hint();
+        self.part(least, Wanted::Any).ok()
+    }
+
     /// The text from one byte to another, where it is short, on one line and without a comment.
     pub fn own_text(&self, from: usize, to: usize) -> Option<&str> {
         let text = self.text().get(from..to)?.trim();
         let short = text.chars().count() <= LONGEST;
-        let plain = !text.contains("//") && !text.contains(char::is_control);
+        let plain = !text.contains("//") && !text.contains(unseen);
         (short && plain && !text.is_empty()).then_some(text)
     }
 

@@ -13,6 +13,9 @@ use std::collections::BTreeMap;
 /// holds far more.
 const DEEPEST: usize = 400;
 
+/// How deep parts may stand in one that is read for a hint alone.
+const DEEPEST_HINT: usize = 30;
+
 /// The words of the notation that begin a part.
 pub const PREFIXES: [&str; 9] = [
     "not",
@@ -242,6 +245,11 @@ impl<'a> Parser<'a> {
             true => Err(self.mistake(self.peek().start, too_deep())),
             false => Ok(()),
         }
+    }
+
+    /// From here on parts are read for a hint alone, and not so deep: the text has a mistake already.
+    pub fn for_hint(&mut self) {
+        self.depth = self.depth.max(DEEPEST - DEEPEST_HINT);
     }
 
     /// Comes back from a part.

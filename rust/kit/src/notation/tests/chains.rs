@@ -4,7 +4,7 @@ use super::following::{accepted, followed};
 use super::*;
 
 /// An assertion, and the text after each hint; the last is accepted.
-const CHAINS: [(&str, &[&str]); 58] = [
+const CHAINS: [(&str, &[&str]); 60] = [
     (
         "assert property (@(posedge c) disable iff (d) a |-> ##[1:3] b);",
         &[
@@ -64,6 +64,14 @@ const CHAINS: [(&str, &[&str]); 58] = [
             "a |-> strong(1 ##1 b) or ##2 c",
             "a |-> strong(1 ##1 b) or strong(1 ##2 c)",
         ],
+    ),
+    (
+        "a |-> ##1 b and (c |-> strong(d))",
+        &["a |-> strong(1 ##1 b) and (c |-> strong(d))"],
+    ),
+    (
+        "always (##1 a or b |-> strong(c))",
+        &["always (1 ##1 a or b |-> strong(c))"],
     ),
     (
         "always ##1 a |-> strong(b)",

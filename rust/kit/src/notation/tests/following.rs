@@ -1,6 +1,6 @@
 //! A person follows each hint to the letter: what it says to write is put in the place of what was written, and
 //! is read.
-use super::hints::{FOREIGN, FUNCTIONS};
+use super::hints::{FOREIGN, FUNCTIONS, REPETITIONS};
 use super::*;
 
 /// A text over the signals a to h with the advice of its mistake followed: the form that is to be written stands
@@ -281,6 +281,113 @@ fn every_function_with_a_hint_is_followed() {
         assert_eq!(mistake(text), (2, 1, words.to_string()));
     }
     accepted("strong(!(a & b) ##1 (a & b))");
+}
+
+#[test]
+fn every_repetition_and_delay_without_a_number_is_followed() {
+    for (inside, _) in REPETITIONS {
+        accepted(&followed(&format!("strong((a ##1 b)[{inside}] ##1 c)")).unwrap());
+    }
+    for after in ["[+]", "[*]", "[*0:$]"] {
+        accepted(&followed(&format!("strong(a ##{after} b)")).unwrap());
+        accepted(&followed(&format!("strong(##{after} b)")).unwrap());
+        accepted(&followed(&format!("a |-> ##{after} b")).unwrap());
+        accepted(&followed(&format!("a |-> ##{after} always strong(b)")).unwrap());
+    }
+}
+
+/// What stands for another sort than the one that is due: the end of the message, and what it says to write.
+#[test]
+fn hints_on_sorts_are_followed() {
+    for (text, words, fed) in [
+        (
+            "strong(!a[*1:$])",
+            "to repeat the whole, write (!a)[*1:$]",
+            "strong((!a)[*1:$])",
+        ),
+        (
+            "@(a or b) strong(c)",
+            "booleans are joined by |",
+            "@(a | b) strong(c)",
+        ),
+        (
+            "!strong(a)",
+            "a property is turned round by not",
+            "not strong(a)",
+        ),
+        (
+            "strong(a) & strong(b)",
+            "properties are joined by and",
+            "strong(a) and strong(b)",
+        ),
+        (
+            "strong(a) | strong(b)",
+            "properties are joined by or",
+            "strong(a) or strong(b)",
+        ),
+        (
+            "strong(not a)",
+            "a boolean is turned round by !",
+            "strong(!a)",
+        ),
+        (
+            "strong(a and b)",
+            "booleans are joined by &",
+            "strong(a & b)",
+        ),
+        (
+            "strong(!a until b)",
+            "there `a until b` is written `((a)[*0] or (a)[*1:$]) ##1 b`",
+            "strong(((!a)[*0] or (!a)[*1:$]) ##1 b)",
+        ),
+        (
+            "nexttime a |-> strong(b)",
+            "an implication here needs parentheses around it",
+            "nexttime (a |-> strong(b))",
+        ),
+        (
+            "rose(!a) |-> strong(b)",
+            "write fell(a)",
+            "fell(a) |-> strong(b)",
+        ),
+        (
+            "strong(rose(a & b))",
+            "over two samples, `!(a & b) ##1 (a & b)` says that it becomes 1",
+            "strong(!(a & b) ##1 (a & b))",
+        ),
+    ] {
+        let (.., told) = mistake(text);
+        assert!(told.ends_with(words), "{told}");
+        accepted(fed);
+    }
+}
+
+/// What stands deep in one another, or is not closed, is a mistake and nothing else.
+#[test]
+fn no_depth_upsets_the_hints() {
+    for piece in [
+        "##1 ",
+        "never ",
+        "if (a) ",
+        "a -> ",
+        "a iff ",
+        "a ##[2:$] ",
+        "nexttime[2] ",
+        "a ? ",
+        "always[2:9] (",
+    ] {
+        for count in [1, 2, 399, 400, 600] {
+            let text = piece.repeat(count);
+            for text in [
+                text.clone(),
+                format!("{text}a"),
+                format!("a |-> {text}strong(a)"),
+            ] {
+                let (line, _, words) = mistake(&text);
+                assert!(line == 2 && !words.is_empty(), "{piece}");
+            }
+        }
+    }
 }
 
 /// Forms with the number n, or m and n, each with letters of its own.

@@ -18,7 +18,7 @@ pub fn rewritings() -> Vec<(String, String)> {
             all.extend(RANGED.map(|word| hints::prefix(word, &range)));
             all.push(hints::leading_delay(&format!("[{range}]")));
         }
-        for n in m..m + 3 {
+        for n in m..m + 4 {
             all.extend(["->", "="].map(|sign| hints::repetition(&format!("{sign}{m}:{n}"))));
         }
     }
@@ -379,15 +379,11 @@ fn levels_of_properties_with_numbers() {
 #[test]
 fn what_is_quoted_in_words_is_read() {
     let texts = [('P', "strong(d)"), ('Q', "weak(e)"), ('R', "d"), ('S', "e")];
-    let others = [
-        "posedge c",
-        "negedge c",
-        "edge c",
-        "assert property (..);",
-        "let busy = a & !b",
-    ];
+    let others = ["assert property (..);", "let busy = a & !b"];
     let hints = hints::FOREIGN.iter().map(|(_, hint)| hint.clone());
     let hints = hints.chain([
+        hints::CONDITION,
+        hints::ACTION,
         hints::repetition("*"),
         hints::repetition("x"),
         hints::delay(""),
