@@ -64,7 +64,8 @@ impl Parser<'_> {
 
     /// The same in words, also on strong where it was put around a part.
     pub fn told_with(&self, hint: Hint, parts: &[Read]) -> String {
-        let whole = parts.iter().all(|(_, part)| part.is_some());
+        let put_in = |(letter, part): &Read| self.own_for(*letter, (*part)?);
+        let whole = parts.iter().all(|read| put_in(read).is_some());
         let added = |(letter, part): &Read| strong_added(*letter, *part);
         let proposes = whole && hint.instead().is_some();
         let more = match proposes && parts.iter().any(added) {

@@ -1,7 +1,7 @@
 //! What SystemVerilog has around an assertion: `assert property (..)`, and action blocks after it.
 use super::forms::bare;
 use super::hints;
-use super::lexer::{Kind, Token};
+use super::lexer::{Kind, Lexer, Token};
 use super::parser::Parser;
 
 impl Parser<'_> {
@@ -10,7 +10,7 @@ impl Parser<'_> {
         match self.asserted() {
             Some(inner) => format!(
                 "the assertion stands alone, without `{} property (..);`, a name or an action block around it: \
-                 write `{}`, where always asks at every sample",
+                 write `{}`, where always asks at every sample, and under a clock at every tick",
                 self.peek().text,
                 asked(inner)
             ),
@@ -56,7 +56,7 @@ fn asked(inner: &str) -> String {
     };
     let rest = rest.trim();
     let blank = if clock.is_empty() { "" } else { " " };
-    match rest.starts_with("always") {
+    match Lexer::new(rest).token().text == "always" {
         true => inner.to_string(),
         false => format!("{clock}{blank}always ({})", bare(rest)),
     }
@@ -64,7 +64,7 @@ fn asked(inner: &str) -> String {
 
 /// The bytes of `@(..)` at the beginning of a text.
 fn clock_length(text: &str) -> Option<usize> {
-    let mut lexer = super::lexer::Lexer::new(text);
+    let mut lexer = Lexer::new(text);
     let signs = [lexer.token(), lexer.token()];
     let clock = signs.map(|token| token.text) == ["@", "("];
     let tokens = std::iter::from_fn(|| Some(lexer.token()).filter(|token| token.kind != Kind::End));

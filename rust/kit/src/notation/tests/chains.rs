@@ -241,6 +241,24 @@ fn an_action_block_gets_no_advice_about_if() {
     );
 }
 
+/// A name that begins as always does is a name.
+#[test]
+fn what_is_asserted_gets_always_once() {
+    for (inner, written) in [
+        ("always_on |-> a", "always (always_on |-> a)"),
+        ("always (a |-> b)", "always (a |-> b)"),
+        ("(a |-> b)", "always (a |-> b)"),
+        ("@(c) (a) |-> (b)", "@(c) always ((a) |-> (b))"),
+        ("@(c) always a |-> b", "@(c) always a |-> b"),
+    ] {
+        let (.., words) = mistake(&format!("assert property ({inner});"));
+        assert!(
+            words.contains(&format!(": write `{written}`, where")),
+            "{words}"
+        );
+    }
+}
+
 /// A part that is long, has a comment in it or goes on on another line is not repeated.
 #[test]
 fn a_part_that_is_not_repeated_is_told_by_its_letter() {
@@ -248,6 +266,11 @@ fn a_part_that_is_not_repeated_is_told_by_its_letter() {
     assert_eq!(
         mistake(&format!("{long}[*2:$]")).2,
         "`R[*2:$]` is written `(R ##1 R[*1:$])`"
+    );
+    // nor is strong, which is put around a part that is
+    assert_eq!(
+        mistake(&format!("nexttime[2] {long}")).2,
+        "`nexttime[2] P` is written `(1 ##2 1 |-> P)`"
     );
     for text in ["a |-> (b\n##1 c)", "a |-> (b // it comes\n##1 c)"] {
         let (.., words) = mistake(text);

@@ -223,7 +223,7 @@ fn what_other_languages_write_gets_a_hint() {
         ("@(negedge a) strong(b)", 3, "`negedge a` is written `fell(a)`, as in `@(fell(a))`: a is 0, and was 1 at the sample before; `kit record --on` takes samples at an edge"),
         ("@(edge a) strong(b)", 3, "`edge a` is written `rose(a) | fell(a)`, as in `@(rose(a) | fell(a))`: a is not as it was at the sample before; `kit record --on` takes samples at an edge"),
         ("strong(a);", 10, "leave ; out: a declaration ends with its line, and the assertion with the text"),
-        ("assert property (strong(a))", 1, "the assertion stands alone, without `assert property (..);`, a name or an action block around it: write `always (strong(a))`, where always asks at every sample"),
+        ("assert property (strong(a))", 1, "the assertion stands alone, without `assert property (..);`, a name or an action block around it: write `always (strong(a))`, where always asks at every sample, and under a clock at every tick"),
         ("strong($rose(a))", 8, "`$rose(a)` is written `rose(a)`, and goes by the sample before, not by the clock tick before"),
         ("strong($rose(a, @(posedge b)))", 8, "`$rose(a)` is written `rose(a)`, and goes by the sample before, not by the clock tick before"),
         ("@(c) $fell(a) |-> strong(b)", 6, "`$fell(a)` is written `fell(a)`, and goes by the sample before, not by the clock tick before"),
