@@ -1,5 +1,5 @@
 //! Reading `rose(a)` and `fell(a)`, of a signal and of no other boolean.
-use super::forms::bare;
+use super::hints::forms::bare;
 use super::levels::CLOCK;
 use super::lexer::Token;
 use super::mistake::Mistake;

@@ -1,6 +1,6 @@
 //! Reading operands: prefixes, parentheses, constants and names.
-use super::foreign::bit;
 use super::hints;
+use super::hints::foreign::bit;
 use super::levels::{CLOCK, NEGATION, PREFIX};
 use super::lexer::{Kind, Place, Token};
 use super::mistake::Mistake;

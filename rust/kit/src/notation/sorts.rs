@@ -1,8 +1,8 @@
 //! The sort of each part of a text, and what is made of it where another sort is due.
-use super::forms::{bare, tight};
+use super::hints::forms::{bare, tight};
+use super::hints::own::{turned, STRENGTH};
 use super::lexer::{Kind, Place, Token};
 use super::mistake::Mistake;
-use super::own::{turned, STRENGTH};
 use super::parser::Parser;
 use super::RESERVED;
 use crate::assertion::{Operator, Sort};

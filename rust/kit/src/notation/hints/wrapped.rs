@@ -1,8 +1,8 @@
 //! What SystemVerilog has around an assertion: `assert property (..)`, and action blocks after it.
 use super::forms::bare;
-use super::hints;
-use super::lexer::{Kind, Lexer, Token};
-use super::parser::Parser;
+use crate::notation::hints;
+use crate::notation::lexer::{Kind, Lexer, Token};
+use crate::notation::parser::Parser;
 
 impl Parser<'_> {
     /// What to write for `assert property (..)`, or the words for all that may stand around an assertion.

@@ -1,13 +1,14 @@
 //! Mistakes of a delay with nothing before it: what is to be written depends on what follows, and on what is due.
 use super::forms::bare;
-use super::hints::{self, Hint};
-use super::levels::DELAY;
-use super::mistake::Mistake;
-use super::operands::Wanted;
 use super::own::STRENGTH;
-use super::parser::Parser;
-use super::sorts::{Part, IMPLICATIONS};
+use super::Hint;
 use crate::assertion::Sort;
+use crate::notation::hints;
+use crate::notation::levels::DELAY;
+use crate::notation::mistake::Mistake;
+use crate::notation::operands::Wanted;
+use crate::notation::parser::Parser;
+use crate::notation::sorts::{Part, IMPLICATIONS};
 
 impl Parser<'_> {
     /// The mistake of a `##` with nothing before it. A mistake in what follows it is told first, since what is to

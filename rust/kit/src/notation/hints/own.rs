@@ -1,10 +1,10 @@
 //! The parts of a text as a proposal repeats them: whole, or not at all.
 use super::forms::{bare, tight};
-use super::hints::Hint;
-use super::operands::Wanted;
-use super::parser::Parser;
-use super::sorts::Part;
+use super::Hint;
 use crate::assertion::Sort;
+use crate::notation::operands::Wanted;
+use crate::notation::parser::Parser;
+use crate::notation::sorts::Part;
 use crate::words::unseen;
 
 /// The characters of a part that a proposal repeats, at most.

@@ -1,14 +1,14 @@
 //! Mistakes of words before a part that the notation does not have, told with that part.
 use super::forms::bare;
-use super::hints;
-use super::levels::CLOCK;
-use super::lexer::{Kind, Token};
-use super::mistake::Mistake;
-use super::operands::Wanted;
-use super::parser::Parser;
-use super::sorts::Part;
 use super::wrapped::acts;
 use crate::assertion::Sort;
+use crate::notation::hints;
+use crate::notation::levels::CLOCK;
+use crate::notation::lexer::{Kind, Token};
+use crate::notation::mistake::Mistake;
+use crate::notation::operands::Wanted;
+use crate::notation::parser::Parser;
+use crate::notation::sorts::Part;
 
 impl Parser<'_> {
     /// The mistake where a part is wanted and a word or sign is ahead that the notation does not have.

@@ -1,9 +1,18 @@
 //! What people write who know SystemVerilog or another language, and what to write instead.
-use super::forms::{filled, written, Texts};
-use super::numbered;
-pub use super::numbered::past;
-pub use super::prefixes::{prefix, takes_numbers};
+pub mod foreign;
+pub mod foreign_operands;
+pub mod forms;
+pub mod leading;
+pub mod numbered;
+pub mod own;
+pub mod prefixes;
+pub mod spans;
+pub mod wrapped;
+
 use crate::assertion::MOST_NODES;
+use forms::{filled, written, Texts};
+pub use numbered::past;
+pub use prefixes::{prefix, takes_numbers};
 use std::fmt;
 
 /// What to write instead.

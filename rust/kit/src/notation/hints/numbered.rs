@@ -1,10 +1,10 @@
 //! What to write for forms with numbers that are not part of the notation, with the numbers that were given.
 //! The definitions are those of source 000, F.2.3. What is written grows evenly with each number.
-use super::counts::{self, MOST};
 use super::forms::filled;
-use super::hints::Hint::{self, Made, Told, Turned, Vast};
 use super::spans::{apart, between, times, SHORT};
+use super::Hint::{self, Made, Told, Turned, Vast};
 use crate::assertion::Operator;
+use crate::notation::counts::{self, MOST};
 
 /// What is written for a form, or that it is too large. `own` has the numbers as they were given; where they
 /// stand backwards, they are turned round.
@@ -41,7 +41,7 @@ pub fn fits(form: &str) -> bool {
         true => filled(form, &small),
         false => format!("strong({})", filled(form, &small)),
     };
-    let read = super::read(&format!("signals b\n{whole}"));
+    let read = crate::notation::read(&format!("signals b\n{whole}"));
     let table = read.map(|read| read.assertion.table());
     // any other refusal is not for its size
     table.is_ok_and(|table| match xistomar::expanded(&table) {

@@ -1,8 +1,8 @@
 //! What to write for words before a property with numbers in brackets, such as `nexttime[2]`.
-use super::counts;
-use super::hints::Hint::{self, Told, Turned};
 use super::numbered::{fits, fitting, forwards};
 use super::spans::later;
+use super::Hint::{self, Told, Turned};
+use crate::notation::counts;
 
 /// Whether SystemVerilog has a word before a property with numbers in brackets.
 pub fn takes_numbers(word: &str) -> bool {

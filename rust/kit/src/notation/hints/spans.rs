@@ -1,6 +1,6 @@
 //! A sequence so many times, and samples so far apart, as texts that grow evenly with the number when they are
 //! written out. `R[*m:n]` and `##[m:n]` write each number from m to n by itself, so they grow with its square.
-use super::counts::MOST;
+use crate::notation::counts::MOST;
 
 /// Up to this number a range is written as `[*m:n]` or `##[m:n]`, which then has about as many nodes and is
 /// plainer.

@@ -1,13 +1,14 @@
 //! Mistakes of operators between two parts that the notation does not have, told with those parts.
-use super::hints::{self, Hint};
-use super::levels::{BOTH, EITHER, NEGATION, UNTIL};
-use super::lexer::{Kind, Token};
-use super::mistake::Mistake;
-use super::operands::Wanted;
 use super::own::turned;
-use super::parser::Parser;
-use super::sorts::Part;
+use super::Hint;
 use crate::assertion::Sort;
+use crate::notation::hints;
+use crate::notation::levels::{BOTH, EITHER, NEGATION, UNTIL};
+use crate::notation::lexer::{Kind, Token};
+use crate::notation::mistake::Mistake;
+use crate::notation::operands::Wanted;
+use crate::notation::parser::Parser;
+use crate::notation::sorts::Part;
 
 /// The signs and words of SystemVerilog that join two parts, and how tightly they bind there.
 const JOINING: [(&str, u8); 13] = [
