@@ -19,12 +19,15 @@ pub const COMMAND: Command = Command {
 };
 
 const HELP: &str = "\
-kit signals FILE.vcd
+kit signals WAVEFORM
 
 Lists the variables of a waveform in the order of the file: the full path, the bits, the kind, and
 the path of an earlier variable that is the same signal under another name. Bits are 1 for a single
 one, [7:0] for a vector of which kit record takes a bit as PATH[3], and - for numbers, strings and
 events, which have no bits to record. Only the header is read, so large files take no longer.
+
+A WAVEFORM is a VCD, a gzip file with a VCD in it, a session file of sigrok (.sr), or an FST of
+GTKWave, which needs the command fst2vcd; - is standard input. The first bytes tell which it is.
 
 Example:
 
@@ -43,8 +46,8 @@ cannot be read or understood.
 const WIDEST: usize = 60;
 
 fn run(options: &Options, console: &mut Console) -> Outcome {
-    let [path] = options.files(["one FILE.vcd"])?;
-    let (header, _) = vcd::open(path)?;
+    let [path] = options.files(["one WAVEFORM"])?;
+    let header = vcd::open(path)?.header;
     let lengths = header.variables.iter().map(|v| v.path.chars().count());
     let widest = lengths.filter(|length| *length <= WIDEST).max();
     let mut first: HashMap<&[u8], &str> = HashMap::new();

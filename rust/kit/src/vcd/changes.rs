@@ -32,7 +32,7 @@ pub enum Change {
 
 /// The changes of a waveform, one at a time.
 pub struct Changes<'a, R> {
-    tokens: Tokens<R>,
+    tokens: &'a mut Tokens<R>,
     /// The codes that the header declares: any other is a sign of damage.
     declared: Codes<'a, bool>,
     digits: Vec<u8>,
@@ -42,7 +42,7 @@ pub struct Changes<'a, R> {
 
 impl<'a, R: BufRead> Changes<'a, R> {
     /// What follows a header that was read.
-    pub fn of(header: &'a Header, tokens: Tokens<R>) -> Changes<'a, R> {
+    pub fn of(header: &'a Header, tokens: &'a mut Tokens<R>) -> Changes<'a, R> {
         let mut declared = Codes::new();
         for variable in &header.variables {
             declared.put(&variable.code, true);
@@ -97,7 +97,7 @@ impl<'a, R: BufRead> Changes<'a, R> {
         if DECLARING.contains(&token) || token == b"$" {
             return Err(self.unexpected("after $enddefinitions a time or a value"));
         }
-        skip_section(&mut self.tokens)
+        skip_section(self.tokens)
     }
 
     /// The change that begins with the last word.

@@ -1,11 +1,12 @@
-//! Waveforms: value change dumps (VCD) as simulators and logic analysers write them, read as a
-//! stream, and the samples taken from them.
+//! Waveforms: value change dumps (VCD) as simulators and logic analysers write them, plain or
+//! compressed, read as a stream, and the samples taken from them.
 mod bit;
 mod changes;
 mod choose;
 mod codes;
 mod edges;
 mod header;
+mod input;
 mod sampling;
 mod time;
 mod tokens;
@@ -17,16 +18,15 @@ pub use changes::Changes;
 pub use choose::{constant, find, Constant, Wire};
 pub use edges::Edge;
 pub use header::Header;
-pub use sampling::{take, Moments, Plan, Taken};
+pub use input::open;
+pub use sampling::{take, Keep, Moments, Plan, Run, Taken, Windows};
 pub use time::Scale;
-pub use tokens::Tokens;
 pub use variable::Variable;
 pub use wanted::{all_wanted, wanted, Wanted};
 
 use crate::failure::Failure;
 use crate::files;
-use std::fs::File;
-use std::io::{self, BufReader};
+use std::io;
 use std::path::Path;
 
 /// Why a waveform gives no answer.
@@ -43,22 +43,29 @@ pub enum Wrong {
 impl Wrong {
     /// The message, with the name of the file.
     pub fn of(self, path: &Path) -> Failure {
-        let shown = files::shown(path);
+        let shown = shown(path);
         match self {
-            Wrong::Unreadable(error) => files::unreadable(path, &error),
+            Wrong::Unreadable(error) => unreadable(path, &error),
             Wrong::Line(line, words) => Failure::Failed(format!("{shown}:{line}: {words}")),
             Wrong::Whole(words) => Failure::Failed(format!("{shown}: {words}")),
         }
     }
 }
 
-/// Opens a waveform and reads its header; what follows the header stays to be read.
-pub fn open(path: &Path) -> Result<(Header, Tokens<BufReader<File>>), Failure> {
-    let file = File::open(path).map_err(|error| files::unreadable(path, &error))?;
-    let mut tokens = Tokens::of(BufReader::with_capacity(1 << 16, file));
-    tokens.skip_mark();
-    let header = header::read(&mut tokens).map_err(|wrong| wrong.of(path))?;
-    Ok((header, tokens))
+/// The name of a waveform in a message.
+pub fn shown(path: &Path) -> String {
+    match path == Path::new(input::STANDARD_INPUT) {
+        true => "standard input".to_string(),
+        false => files::shown(path),
+    }
+}
+
+/// The message for a waveform that cannot be read.
+fn unreadable(path: &Path, error: &io::Error) -> Failure {
+    let inner = error.get_ref();
+    let told = inner.and_then(|inner| inner.downcast_ref::<input::Told>());
+    let words = told.map_or_else(|| files::why(error), |told| told.to_string());
+    Failure::Failed(format!("{}: {words}", shown(path)))
 }
 
 #[cfg(test)]

@@ -1,8 +1,9 @@
 use super::choose::Probe;
+use super::tokens::Tokens;
 use super::*;
 use crate::names::Names;
 use crate::testing::Random;
-use std::io::{BufRead, Read};
+use std::io::{BufRead, BufReader, Read};
 
 const SMALL: &str = "$timescale 10ns $end $scope module top $end $var wire 1 ! a $end
 $var wire 8 \" v [7:0] $end $upscope $end $enddefinitions $end\n";
@@ -28,11 +29,13 @@ fn changes_of_a(input: impl BufRead, count: Option<usize>) -> Result<Taken, Wron
         constants: vec![],
         moments: Moments::Changes,
         from: None,
-        count,
+        to: None,
+        keep: Keep::First(count),
         unknown: None,
         settled: false,
     };
-    take(&plan, &mut Changes::of(&header, tokens))
+    let run = take(&plan, &mut Changes::of(&header, &mut tokens))?;
+    Ok(run.records(plan.keep).remove(0))
 }
 
 /// Text that is made as it is read: a head, and then one block after the other.

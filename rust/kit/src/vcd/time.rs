@@ -83,6 +83,21 @@ impl Scale {
         }
     }
 
+    /// The largest unit of which all these times are whole numbers, and its size. Where they are all 0
+    /// it is a tick's.
+    pub fn unit_of(self, times: &[u128]) -> (&'static str, u128) {
+        let Some(tick) = self.tick else {
+            return ("ticks", 1);
+        };
+        let measures = match times.iter().all(|time| *time == 0) {
+            true => &[tick],
+            false => times,
+        };
+        let whole = |size: u128| measures.iter().all(|time| time % size == 0);
+        let unit = UNITS.iter().find(|(_, size)| whole(*size));
+        unit.copied().unwrap_or(("fs", 1))
+    }
+
     /// What a tick is, for a reader.
     pub fn describe(self) -> String {
         match self.tick {
@@ -212,6 +227,19 @@ mod tests {
         let ticks = Scale::default();
         assert!(ticks.read("10ns").unwrap_err().contains("no $timescale"));
         assert_eq!(ticks.read("10").unwrap(), 10);
+    }
+
+    #[test]
+    fn times_have_a_unit_in_which_all_are_whole() {
+        let nano = scale("100ps");
+        let (ns, us) = (1_000_000, 1_000_000_000);
+        assert_eq!(nano.unit_of(&[15 * ns, 2 * us]), ("ns", ns));
+        assert_eq!(nano.unit_of(&[0, 3 * us]), ("us", us));
+        assert_eq!(nano.unit_of(&[2_500_000, 2 * us]), ("ps", 1_000));
+        assert_eq!(nano.unit_of(&[1, us]), ("fs", 1));
+        // a tick is 100 ps
+        assert_eq!(nano.unit_of(&[0]), ("ps", 1_000));
+        assert_eq!(Scale::default().unit_of(&[5]), ("ticks", 1));
     }
 
     #[test]

@@ -27,6 +27,11 @@ impl<R: BufRead> Tokens<R> {
         }
     }
 
+    /// The stream, of which the words up to here are read, and more may be.
+    pub fn into_input(self) -> R {
+        self.input
+    }
+
     /// Passes over the mark that some editors write before a text in UTF-8, which nobody sees.
     pub fn skip_mark(&mut self) {
         let begin = filled(&mut self.input).unwrap_or_default();

@@ -4,6 +4,7 @@ mod bad_input;
 mod batch;
 mod derived;
 mod engine;
+mod formats;
 mod judge;
 mod names;
 mod options;
@@ -14,6 +15,7 @@ mod record;
 mod show;
 #[cfg(target_os = "linux")]
 mod stream;
+mod stretches;
 mod support;
 mod table;
 #[path = "../../src/testing.rs"]

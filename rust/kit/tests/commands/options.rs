@@ -151,9 +151,9 @@ fn files_are_needed() {
 fn too_many_files_are_named() {
     let only = |command: &str, what: &str| format!("kit {command}: only {what} can be given, ");
     let quotes = "; a value with a blank in it is put in quotes\n";
-    let begins = only("record", "one FILE.vcd") + "and here stand good.vcd and clk" + quotes;
+    let begins = only("record", "one WAVEFORM") + "and here stand good.vcd and clk" + quotes;
     wrong(["record", "good.vcd", "--on", "posedge", "clk"], &begins);
-    let begins = only("record", "one FILE.vcd") + "and here stand ns and good.vcd" + quotes;
+    let begins = only("record", "one WAVEFORM") + "and here stand ns and good.vcd" + quotes;
     wrong(["record", "--every", "10", "ns", "good.vcd"], &begins);
     // no option's value stands before a file
     let begins = only("judge", "TABLE and RECORD") + "and here stand a, b\\n and c\n";
@@ -164,7 +164,7 @@ fn too_many_files_are_named() {
     let many = only("show", "one TABLE or RECORD") + "and here stand a, b, c, d and 2 more\n";
     wrong(["show", "a", "b", "c", "d", "e", "f"], &many);
     let (long, cut) = ("x".repeat(1000), "x".repeat(40));
-    let begins = only("signals", "one FILE.vcd") + &format!("and here stand {cut}.. and b\n");
+    let begins = only("signals", "one WAVEFORM") + &format!("and here stand {cut}.. and b\n");
     wrong(["signals", &long, "b"], &begins);
 }
 

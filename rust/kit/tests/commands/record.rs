@@ -420,7 +420,7 @@ fn mistakes_are_told_with_their_line() {
 #[test]
 fn mistakes_in_the_header_are_told_with_their_line() {
     let cases = [
-        ("", "w.vcd:1: the file ends before $enddefinitions"),
+        ("\n", "w.vcd:2: the file ends before $enddefinitions"),
         ("\u{1f}\u{8b}\u{8}", "w.vcd:1: a section such as"),
         ("$date\n$end\nVCD", "w.vcd:3: a section such as"),
         ("$date\n$end\n#0", "w.vcd:3: a section such as"),

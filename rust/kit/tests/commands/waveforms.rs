@@ -84,9 +84,10 @@ fn iverilog_a_flush_that_is_durable() {
 #[test]
 fn iverilog_a_flush_that_is_lost() {
     // the supply is cut at 52, before the strobe that would have come at 65
-    let name = "drive-lost.vcd";
-    expect(name, &FLUSH, &[0, 0, 0, 1, 2, 2, 2, 2, 2, 2]);
-    expect_line(name, &FLUSH, "level 0 tested yes");
+    for name in ["drive-lost.vcd", "drive-lost.vcd.gz"] {
+        expect(name, &FLUSH, &[0, 0, 0, 1, 2, 2, 2, 2, 2, 2]);
+        expect_line(name, &FLUSH, "level 0 tested yes");
+    }
 }
 
 #[test]
@@ -231,24 +232,29 @@ const LOGIC: &str = "ack=ack,drop=drop,strobe=strobe,busy=busy";
 
 #[test]
 fn sigrok_a_capture() {
+    capture("logic-sigrok.vcd");
+    capture("logic.sr");
+}
+
+fn capture(name: &str) {
     // the 14 lines of logic.csv, one for each 500 ns; the time 7 us ends the file, and nothing was
     // captured at it
     let every = ["--signals", LOGIC, "--every", "500ns"];
     let lines = [0, 0, 9, 9, 8, 8, 12, 0, 0, 9, 8, 10, 2, 2];
-    expect("logic-sigrok.vcd", &every, &lines);
+    expect(name, &every, &lines);
     // the lines that differ from the one before
     let changes = [0, 9, 8, 12, 0, 9, 8, 10, 2];
-    expect("logic-sigrok.vcd", &["--signals", LOGIC], &changes);
+    expect(name, &["--signals", LOGIC], &changes);
     // the first flush is durable, the second is not: the supply drops 1 us after it
     expect_line(
-        "logic-sigrok.vcd",
+        name,
         &[&every[..], &["--count", "9"]].concat(),
         "level 2 tested yes",
     );
-    expect_line("logic-sigrok.vcd", &every, "level 0 tested yes");
+    expect_line(name, &every, "level 0 tested yes");
     // busy as the clock: it rises at 1 us and 4.5 us, and falls at 3.5 us and 6 us
     let words = ["--signals", LOGIC, "--on", "negedge busy"];
-    expect("logic-sigrok.vcd", &words, &[12, 10]);
+    expect(name, &words, &[12, 10]);
 }
 
 #[test]
@@ -271,6 +277,11 @@ fn what_the_files_have_is_listed() {
         ),
         (
             "logic-sigrok.vcd",
+            "4 variables; times are in units of 100 ns",
+            "libsigrok.busy    1        wire",
+        ),
+        (
+            "logic.sr",
             "4 variables; times are in units of 100 ns",
             "libsigrok.busy    1        wire",
         ),

@@ -1,12 +1,12 @@
 //! What the command line of `kit record` asks for.
+use super::chosen::Chosen;
 use super::written::OUTPUT;
 use crate::failure::Failure;
 use crate::options::Options;
-use crate::output::Output;
+use crate::output::{self, Output};
 use crate::source;
-use crate::vcd::{self, Constant, Edge, Header, Moments, Plan, Scale, Wanted, Wire, Wrong};
+use crate::vcd::{self, Constant, Edge, Header, Keep, Moments, Plan, Scale, Wanted, Wire, Wrong};
 use std::path::{Path, PathBuf};
-use xistomar::LONGEST;
 
 /// What is asked for, as far as it can be read without the waveform.
 pub struct Request {
@@ -17,17 +17,17 @@ pub struct Request {
     /// Where the record goes.
     pub output: PathBuf,
     /// Whether it may be any file but an input.
-    pub force: bool,
+    force: bool,
     wanted: Vec<Wanted>,
     edge: Option<(Edge, String)>,
-    count: Option<usize>,
+    chosen: Chosen,
     unknown: Option<bool>,
 }
 
 impl Request {
     /// Reads the options.
     pub fn of(options: &Options) -> Result<Request, Failure> {
-        let [waveform] = options.files(["one FILE.vcd"])?;
+        let [waveform] = options.files(["one WAVEFORM"])?;
         let usage = |words: &str| Failure::Usage(words.to_string());
         let list = options.text("--signals")?;
         let list = list.ok_or_else(|| usage("--signals NAME=PATH,.. must say what is recorded"))?;
@@ -41,7 +41,7 @@ impl Request {
             let words = "--settled goes with --on: other samples have the settled values anyway";
             return Err(usage(words));
         }
-        let count = options.text("--count")?.map(count).transpose()?;
+        let chosen = Chosen::of(options)?;
         let unknown = options.text("--x")?.map(unknown).transpose()?;
         let names = options.value("--names").map(PathBuf::from);
         let wanted = wanted(list, names.as_deref())?;
@@ -52,9 +52,16 @@ impl Request {
             force,
             wanted,
             edge,
-            count,
+            chosen,
             unknown,
         })
+    }
+
+    /// Asks that a record may be written, and what stands beside it.
+    pub fn may_write(&self, record: &Path) -> Result<(), Failure> {
+        let inputs = [&self.waveform].into_iter().chain(&self.names);
+        let inputs: Vec<&Path> = inputs.map(PathBuf::as_path).collect();
+        output::may_write(record, self.force, &OUTPUT, &inputs)
     }
 
     /// What is asked of the waveform, now that its header is read.
@@ -72,15 +79,28 @@ impl Request {
                 None => Moments::Changes,
             },
         };
+        let [from, to] = between(options, header.scale)?;
         Ok(Plan {
             scale: header.scale,
             wires,
             constants,
             moments,
-            from: time(options, "--from", header.scale)?,
-            count: self.count,
+            from,
+            to,
+            keep: self.keep(options, header.scale)?,
             unknown: self.unknown,
             settled: options.flag("--settled"),
+        })
+    }
+
+    /// Which samples are kept.
+    fn keep(&self, options: &Options, scale: Scale) -> Result<Keep, Failure> {
+        let around = time(options, "--around", scale)?;
+        Ok(match self.chosen {
+            Chosen::First(count) => Keep::First(count),
+            Chosen::Last(count) => Keep::Last(count),
+            Chosen::Around(count) => Keep::Around(around.unwrap_or_default(), count),
+            Chosen::Windows(windows) => Keep::Windows(windows),
         })
     }
 
@@ -149,18 +169,27 @@ fn edge(text: &str) -> Result<(Edge, String), Failure> {
     read.ok_or_else(|| Failure::Usage(format!("--on is {expected}, not '{text}'")))
 }
 
-fn count(text: &str) -> Result<usize, Failure> {
-    let number = text.parse().ok().filter(|number| *number <= LONGEST);
-    let expected = || format!("--count is a number, 0 to {LONGEST}, not '{text}'");
-    number.ok_or_else(|| Failure::Usage(expected()))
-}
-
 fn unknown(text: &str) -> Result<bool, Failure> {
     match text {
         "0" => Ok(false),
         "1" => Ok(true),
         _ => Err(Failure::Usage(format!("--x is 0 or 1, not '{text}'"))),
     }
+}
+
+/// The times between which samples are taken.
+fn between(options: &Options, scale: Scale) -> Result<[Option<u128>; 2], Failure> {
+    let (from, to) = (
+        time(options, "--from", scale)?,
+        time(options, "--to", scale)?,
+    );
+    if let Some((from, to)) = from.zip(to).filter(|(from, to)| to < from) {
+        let (from, to) = (scale.show(from), scale.show(to));
+        return Err(Failure::Usage(format!(
+            "--to: {to} is before {from}, which --from gives, so no sample is between them"
+        )));
+    }
+    Ok([from, to])
 }
 
 /// The time that an option gives.

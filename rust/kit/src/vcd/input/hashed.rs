@@ -1,0 +1,40 @@
+//! The SHA-256 of a stream, taken while it is read, so that no second reading is needed.
+use super::Source;
+use sha2::{Digest, Sha256};
+use std::io::{self, BufReader, Read};
+
+/// A stream that is hashed as it is read.
+pub struct Hashed<R> {
+    input: R,
+    hash: Sha256,
+}
+
+impl<R: Read> Hashed<R> {
+    /// A stream of which nothing is read yet.
+    pub fn of(input: R) -> Hashed<R> {
+        let hash = Sha256::new();
+        Hashed { input, hash }
+    }
+
+    /// The digest of all its bytes in lower-case hex; those that are left are read for it.
+    pub fn finish(mut self) -> io::Result<String> {
+        let mut rest = BufReader::with_capacity(1 << 16, &mut self);
+        io::copy(&mut rest, &mut io::sink())?;
+        let bytes = self.hash.finalize();
+        Ok(bytes.iter().map(|byte| format!("{byte:02x}")).collect())
+    }
+}
+
+impl<R: Read> Read for Hashed<R> {
+    fn read(&mut self, buffer: &mut [u8]) -> io::Result<usize> {
+        let count = self.input.read(buffer)?;
+        self.hash.update(buffer.get(..count).unwrap_or_default());
+        Ok(count)
+    }
+}
+
+impl<R: Read> Source for Hashed<R> {
+    fn digest(self: Box<Self>) -> io::Result<String> {
+        self.finish()
+    }
+}
