@@ -79,8 +79,8 @@ pub fn open(path: &Path) -> Result<Opened, Failure> {
 /// Reads the header of a source that was found under this name.
 fn read_header(path: &Path, source: Box<dyn Source>) -> Result<Opened, Failure> {
     let mut tokens = Tokens::of(BufReader::with_capacity(1 << 16, source));
-    tokens.skip_mark();
-    let header = header::read(&mut tokens).map_err(|wrong| wrong.of(path))?;
+    let header = tokens.skip_mark().and_then(|()| header::read(&mut tokens));
+    let header = header.map_err(|wrong| wrong.of(path))?;
     let path = path.to_path_buf();
     Ok(Opened {
         header,

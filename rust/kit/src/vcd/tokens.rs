@@ -33,11 +33,12 @@ impl<R: BufRead> Tokens<R> {
     }
 
     /// Passes over the mark that some editors write before a text in UTF-8, which nobody sees.
-    pub fn skip_mark(&mut self) {
-        let begin = filled(&mut self.input).unwrap_or_default();
+    pub fn skip_mark(&mut self) -> Result<(), Wrong> {
+        let begin = filled(&mut self.input).map_err(Wrong::Unreadable)?;
         if begin.starts_with("\u{feff}".as_bytes()) {
             self.input.consume("\u{feff}".len());
         }
+        Ok(())
     }
 
     /// The next word, if there is one.
@@ -155,7 +156,7 @@ mod tests {
     fn a_mark_before_the_text_is_passed_over() {
         for text in ["\u{feff}$date", "$date"] {
             let mut tokens = Tokens::of(text.as_bytes());
-            tokens.skip_mark();
+            tokens.skip_mark().unwrap();
             assert_eq!(tokens.token().unwrap(), Some(&b"$date"[..]));
         }
     }

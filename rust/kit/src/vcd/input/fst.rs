@@ -1,13 +1,16 @@
 //! A waveform of GTKWave (FST), whose VCD text the command `fst2vcd` gives.
 mod blocks;
+mod piped;
 
 use super::stored::Stored;
 use super::{told, Source};
 use crate::words;
+use piped::Piped;
 use std::io::{self, Read};
 use std::path::Path;
-use std::process::{Child, ChildStderr, ChildStdout, Command, Stdio};
+use std::process::{Child, ChildStderr, Command, Stdio};
 use std::thread::{self, JoinHandle};
+use std::time::Duration;
 
 /// Why an FST that is no file cannot be read.
 pub const NO_FILE: &str =
@@ -16,6 +19,9 @@ pub const NO_FILE: &str =
 
 /// The bytes of the command's messages that are kept, at most.
 const MESSAGE: u64 = 1 << 12;
+
+/// How long the command may give nothing: much longer than it needs for a block of a large file.
+const SILENCE: Duration = Duration::from_secs(60);
 
 /// Starts the command on a file that has all its blocks.
 pub fn open(path: &Path, mut stored: Stored) -> io::Result<Box<dyn Source>> {
@@ -33,6 +39,7 @@ pub fn open(path: &Path, mut stored: Stored) -> io::Result<Box<dyn Source>> {
         )),
     })?;
     let output = child.stdout.take();
+    let output = output.map(|output| Piped::of(output, SILENCE));
     let messages = child
         .stderr
         .take()
@@ -50,7 +57,7 @@ struct Fst {
     stored: Stored,
     /// The command, until its end is seen.
     child: Option<Child>,
-    output: Option<ChildStdout>,
+    output: Option<Piped>,
     /// Its messages are read beside its output, so that it never waits for a reader of them.
     messages: Option<JoinHandle<String>>,
 }

@@ -50,12 +50,14 @@ struct Unpacked<R>(MultiGzDecoder<Hashed<R>>);
 
 impl<R: Read> Read for Unpacked<R> {
     fn read(&mut self, buffer: &mut [u8]) -> io::Result<usize> {
-        self.0.read(buffer).map_err(|error| match error.kind() {
+        let read = self.0.read(buffer);
+        read.map_err(|error| match error.kind() {
             _ if error.raw_os_error().is_some() => error,
             io::ErrorKind::Interrupted => error,
-            io::ErrorKind::UnexpectedEof => {
-                told("this is a gzip file, and it ends early: the rest of it is missing")
-            }
+            // more was asked for than there is
+            _ if self.0.get_ref().ended() => told(
+                "this is a gzip file, and it ends early: the rest of it is missing, or it is damaged",
+            ),
             _ => told(format!("this is a gzip file, and it is damaged: {error}")),
         })
     }

@@ -7,13 +7,22 @@ use std::io::{self, BufReader, Read};
 pub struct Hashed<R> {
     input: R,
     hash: Sha256,
+    ended: bool,
 }
 
 impl<R: Read> Hashed<R> {
     /// A stream of which nothing is read yet.
     pub fn of(input: R) -> Hashed<R> {
-        let hash = Sha256::new();
-        Hashed { input, hash }
+        Hashed {
+            input,
+            hash: Sha256::new(),
+            ended: false,
+        }
+    }
+
+    /// Whether its end was reached.
+    pub fn ended(&self) -> bool {
+        self.ended
     }
 
     /// The digest of all its bytes in lower-case hex; those that are left are read for it.
@@ -28,6 +37,7 @@ impl<R: Read> Hashed<R> {
 impl<R: Read> Read for Hashed<R> {
     fn read(&mut self, buffer: &mut [u8]) -> io::Result<usize> {
         let count = self.input.read(buffer)?;
+        self.ended |= count == 0 && !buffer.is_empty();
         self.hash.update(buffer.get(..count).unwrap_or_default());
         Ok(count)
     }

@@ -1,4 +1,5 @@
 //! Compressed waveforms that are torn or damaged: a message, or the right record.
+use super::{gzip, AB, SMALL};
 use crate::support::waves::{record, samples};
 use crate::support::{example_bytes, kit, put, Folder};
 
@@ -58,6 +59,44 @@ fn a_damaged_gzip_file() {
     ];
     let expected = [0, 0, 0, 1, 2, 2, 2, 2, 2, 2];
     damage("waves/drive-lost.vcd.gz", &words, &expected, "gzip file");
+}
+
+#[test]
+fn what_ends_early_is_told_from_what_is_damaged() {
+    let whole = gzip(SMALL.as_bytes());
+    let last = whole.len() - 1;
+    let early = "it ends early: the rest of it is missing, or it is damaged";
+    let cases = [
+        (&whole[..3], early),
+        (&whole[..60], early),
+        // the sum and the length are eight bytes
+        (&whole[..last - 7], early),
+        (&whole[..last], early),
+    ];
+    for (bytes, words) in cases {
+        told(bytes, words);
+    }
+    let mut changed = whole.clone();
+    changed[last] ^= 1;
+    told(
+        &changed,
+        "it is damaged: corrupt gzip stream does not have a matching checksum",
+    );
+    // a member that is none follows
+    told(
+        &[&whole, &b"hello, hello"[..]].concat(),
+        "it is damaged: invalid gzip header",
+    );
+}
+
+/// Asks for what `kit record` says of a gzip file.
+#[track_caller]
+fn told(bytes: &[u8], words: &str) {
+    let folder = Folder::new();
+    let path = folder.file("w.vcd.gz", bytes);
+    let said = record(&folder, &path, &AB);
+    let expected = format!("kit record: {path}: this is a gzip file, and {words}\n");
+    assert_eq!((said.status, said.err), (4, expected));
 }
 
 #[test]

@@ -61,12 +61,13 @@ fn a_failure_of_fst2vcd_is_told_with_its_words() {
         (Some(4), expected.as_str())
     );
     assert!(!Path::new(&out).exists());
-    let settings = [("FAKE_VCD", vcd.as_str()), ("FAKE_STATUS", "3")];
-    let said = run(&fake(), &words, &settings);
-    assert_eq!(
-        text(&said.stderr),
-        format!("kit record: {wave}: {failed}\n")
-    );
+    // also where it says and gives nothing
+    for vcd in [vcd.as_str(), "/dev/null"] {
+        let settings = [("FAKE_VCD", vcd), ("FAKE_STATUS", "3")];
+        let said = run(&fake(), &words, &settings);
+        let expected = format!("kit record: {wave}: {failed}\n");
+        assert_eq!(text(&said.stderr), expected);
+    }
 }
 
 #[test]
