@@ -14,6 +14,12 @@ fn header(text: &str) -> Header {
 
 /// Takes samples of `top.a` when it changes, at most `count`.
 fn changes_of_a(input: impl BufRead, count: Option<usize>) -> Result<Taken, Wrong> {
+    let records = records_of_a(input, Keep::First(count))?;
+    Ok(records.into_iter().next().unwrap())
+}
+
+/// The records of `top.a` when it changes.
+fn records_of_a(input: impl BufRead, keep: Keep) -> Result<Vec<Taken>, Wrong> {
     let mut tokens = Tokens::of(input);
     let header = header::read(&mut tokens)?;
     let (path, probe) = find(&header, "top.a").map_err(Wrong::Whole)?;
@@ -30,12 +36,12 @@ fn changes_of_a(input: impl BufRead, count: Option<usize>) -> Result<Taken, Wron
         moments: Moments::Changes,
         from: None,
         to: None,
-        keep: Keep::First(count),
+        keep,
         unknown: None,
         settled: false,
     };
     let run = take(&plan, &mut Changes::of(&header, &mut tokens))?;
-    Ok(run.records(plan.keep).remove(0))
+    Ok(run.records(plan.keep))
 }
 
 /// Text that is made as it is read: a head, and then one block after the other.
@@ -137,7 +143,30 @@ fn random_and_damaged_files_give_an_answer_or_a_message() {
         if let Ok(taken) = changes_of_a(&damaged[..], None) {
             assert!(!taken.samples.is_empty() && taken.times.is_sorted());
             assert_eq!(taken.samples.len(), taken.times.len());
+            parts(&damaged, &taken.times);
         }
+    }
+}
+
+/// Of samples that can all be taken, those at these times, each part can: worked out by counting.
+fn parts(text: &[u8], all: &[u128]) {
+    let times = |keep: Keep| -> Vec<Vec<u128>> {
+        let records = records_of_a(text, keep).unwrap();
+        records.into_iter().map(|taken| taken.times).collect()
+    };
+    for count in 1..4 {
+        let last = all.len().saturating_sub(count);
+        assert_eq!(times(Keep::Last(count)), [&all[last..]]);
+        let time = 60_000_000;
+        let (before, after): (Vec<u128>, Vec<u128>) = all.iter().partition(|at| **at < time);
+        let before = before[before.len().saturating_sub(count / 2)..].iter();
+        let after = after.iter().take(count - count / 2);
+        let around: Vec<u128> = before.chain(after).copied().collect();
+        assert!(around.is_empty() || times(Keep::Around(time, count)) == [around]);
+        let overlap = count - 1;
+        let windows = times(Keep::Windows(Windows { count, overlap }));
+        let expected: Vec<&[u128]> = all.windows(count.min(all.len())).collect();
+        assert_eq!(windows, expected);
     }
 }
 
