@@ -205,9 +205,9 @@ Example, for every record of tonight's run, none of them broken:
   $ kit batch flush.svt run/ --require 1
 
 The status is 5 where the engines differ on a record, or else 4 where a file or a folder could not
-be read or a record does not fit what is known of it, or else 3 where a record is refused (or the table, and then nothing is judged), or else 1
-where a record does not reach what --require, --tested and --asked ask, or else 0. It is 2 for a
-wrong command line.
+be read or a record does not fit what is known of it, or else 3 where a record is refused (or the
+table, and then nothing is judged), or else 1 where a record does not reach what --require, --tested
+and --asked ask, or else 0. It is 2 for a wrong command line.
 ";
 
 #[cfg(test)]

@@ -100,8 +100,8 @@ The bench kit: from a waveform to a verdict that a person can read.
 
   kit table FILE.txt -o FILE.svt          an assertion as text, to a table
   kit show TABLE|RECORD                   a table or a record, as text
-  kit signals FILE.vcd                    the signals of a waveform
-  kit record FILE.vcd --signals a=top.ack,.. -o FILE.svw
+  kit signals WAVEFORM                    the signals of a waveform
+  kit record WAVEFORM --signals a=top.ack,.. -o FILE.svw
                                           a waveform, to a record of at most 63 samples
   kit judge TABLE RECORD                  the verdict in words
   kit picture TABLE RECORD -o FILE.svg    the verdict as a picture

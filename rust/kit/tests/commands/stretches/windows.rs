@@ -11,7 +11,7 @@ fn run(body: &str, words: &[&str]) -> (Ran, Vec<(String, Vec<u64>)>) {
     let words = [&["record", &path, "--windows", "-o", &out], words].concat();
     let said = kit(words);
     let files = fs::read_dir(&*folder).unwrap().map(|entry| entry.unwrap());
-    let files = files.filter(|entry| entry.path().is_file());
+    let files = files.filter(|entry| entry.path().extension().is_some_and(|it| it == "svw"));
     let mut records: Vec<(String, Vec<u64>)> = files
         .map(|file| {
             let samples = xistomar::samples(&fs::read(file.path()).unwrap()).unwrap();
@@ -171,8 +171,8 @@ fn a_name_without_an_ending_keeps_none() {
     let folder = Folder::new();
     let path = folder.file("w.vcd", format!("{HEAD}{}", rises(1..=2)));
     let words = |out: &str| {
-        let words = [&["record", path.as_str(), "--windows", "-o", out], &ON[..]].concat();
-        kit(words)
+        let words = ["record", path.as_str(), "--windows", "--force", "-o", out];
+        kit([&words, &ON[..]].concat())
     };
     assert_eq!(words(&folder.path("run.1")).status, 0);
     assert!(folder.join("run-10ns.1").exists());
