@@ -166,6 +166,44 @@ fn nothing_is_written_where_a_window_cannot_be_made() {
     assert!(said.err.ends_with(part), "{}", said.err);
 }
 
+/// Each record has its own file beside it, and one name that is taken keeps all from being written.
+#[test]
+fn each_window_has_its_names_and_times() {
+    let folder = Folder::new();
+    let path = folder.file("w.vcd", format!("{HEAD}{}", rises(1..=6)));
+    let out = folder.path("w.svw");
+    let words = [
+        "record",
+        path.as_str(),
+        "--windows",
+        "--count",
+        "4",
+        "-o",
+        &out,
+    ];
+    let words = [&words, &ON[..]].concat();
+    let taken = folder.file("w-30ns.svw", "mine");
+    let said = kit(&words);
+    let told = format!("kit record: {taken}: cannot be written: it is there already");
+    assert!(
+        said.status == 4 && said.err.starts_with(&told),
+        "{}",
+        said.err
+    );
+    assert!(!folder.join("w-10ns.svw").exists());
+    fs::remove_file(&taken).unwrap();
+    assert_eq!(kit(&words).status, 0);
+    for (name, times) in [
+        ("w-10ns.svw", ["10 ns", "20 ns", "30 ns", "40 ns"]),
+        ("w-30ns.svw", ["30 ns", "40 ns", "50 ns", "60 ns"]),
+    ] {
+        let beside = fs::read(folder.join(format!("{name}.json"))).unwrap();
+        let beside: serde_json::Value = serde_json::from_slice(&beside).unwrap();
+        assert_eq!(beside["record"]["file"], name);
+        assert_eq!(beside["times"], serde_json::json!(times));
+    }
+}
+
 #[test]
 fn a_name_without_an_ending_keeps_none() {
     let folder = Folder::new();
