@@ -155,8 +155,9 @@ pub fn edge(word: &str, clock: &str) -> Hint {
         ),
     };
     Told(format!(
-        "`{word} {clock}` is written `{instead}`, as in `@({instead})`: {clock} {says}; `kit record --on` takes \
-         samples at an edge"
+        "`{word} {clock}` is written `{instead}`, as in `@({instead})`: {clock} {says}, so it sees the values after the \
+         edge; SystemVerilog sees those before it, as `kit record --on \"{word} {clock}\"` samples them, and then the \
+         clock is left out"
     ))
 }
 
@@ -233,13 +234,16 @@ pub const SET_UP: Hint = Words(
 );
 const RESET: Hint = Words(
     "resets are not part of the notation and are left out: judge a record that begins after the reset, as `kit \
-     record --from TIME` takes it, and ends before the next one, by its `--count N`",
+     record --from TIME` takes it, and ends before the next one, by its `--to TIME`",
 );
-const ABSENT: Hint =
-    Words("this operator is not part of the notation: kit table --help lists those that are");
+const ABSENT: Hint = Words(
+    "this operator is not part of the notation: kit table --help lists those that are, and docs/PATTERNS.md has what \
+     is often asked, as that one holds until another comes",
+);
 const EDGE: Hint = Words(
-    "an edge of a clock c is written `rose(c)`, `fell(c)` or `rose(c) | fell(c)`, as in `@(rose(c))`; `kit record \
-     --on` takes samples at an edge",
+    "an edge of a clock c is written `rose(c)`, `fell(c)` or `rose(c) | fell(c)`, as in `@(rose(c))`, which sees the \
+     values after it; SystemVerilog sees those before it, as `kit record --on` samples them, and then the clock is \
+     left out",
 );
 const JOINED: Hint = Words(
     "booleans are joined by &, which binds tighter than | (&& binds looser): parentheses help \

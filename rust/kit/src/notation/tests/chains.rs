@@ -204,7 +204,8 @@ fn each_hint_leads_on_and_the_last_to_an_accepted_text() {
 /// What the notation has no form for is said to be so, and no form is proposed.
 #[test]
 fn what_has_no_form_is_told_in_words() {
-    let absent = "this operator is not part of the notation: kit table --help lists those that are";
+    let absent = "this operator is not part of the notation: kit table --help lists those that are, and docs/PATTERNS.md has what \
+                  is often asked, as that one holds until another comes";
     for (text, words) in [
         ("a |-> b throughout c", absent),
         ("a |-> strong(b within c)", absent),
