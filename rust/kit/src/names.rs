@@ -72,6 +72,13 @@ impl Names {
         name
     }
 
+    /// The names of those signals that another file names too.
+    pub fn within(&self, other: &Names) -> Names {
+        let named = |(_, number): &&(String, u8)| other.declared(*number).is_some();
+        let declared = self.declared.iter().filter(named).cloned().collect();
+        Names { declared }
+    }
+
     /// All declared names with their numbers, in the order of their declaration.
     pub fn all(&self) -> &[(String, u8)] {
         &self.declared

@@ -1,6 +1,6 @@
 //! What a verdict is of: the files, the names of the signals and the times of the samples.
 use crate::assertion::Assertion;
-use crate::beside::{self, Beside, Recorded};
+use crate::beside::{self, Beside, Recorded, RECORD_AGAIN};
 use crate::failure::Failure;
 use crate::files::{self, shown};
 use crate::names::Names;
@@ -92,10 +92,15 @@ impl Origin {
         let other = recorded.as_ref().map(Recorded::names);
         if let Some(other) = &other {
             let asked = asked(&source.table);
-            beside::agree((table, &source.names), &asked, (record, other))?;
+            beside::agree(
+                (table, &source.names),
+                &asked,
+                (record, other),
+                RECORD_AGAIN,
+            )?;
         }
         let (naming, names) = match (&source.text, other) {
-            (Some(_), Some(_)) => (Naming::Agreed, source.names.clone()),
+            (Some(_), Some(other)) => (Naming::Agreed, source.names.within(&other)),
             (Some(_), None) => (Naming::Text, source.names.clone()),
             (None, Some(other)) => (Naming::Record, other),
             (None, None) => (Naming::Nobody, Names::none()),

@@ -89,7 +89,9 @@ fn bytes(path: &Path, given: Option<&Path>) -> Result<Source, Failure> {
         (Some((text, names)), tabled) => {
             if let Some(tabled) = tabled {
                 let asked = origin::asked(&table);
-                beside::agree((path, &tabled.names()), &asked, (text, &names))?;
+                let advice =
+                    "--names takes a text that calls the signals as the table's own text does";
+                beside::agree((path, &tabled.names()), &asked, (text, &names), advice)?;
             }
             (names, Some(Text::Given(text.to_path_buf())))
         }

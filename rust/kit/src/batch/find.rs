@@ -19,6 +19,8 @@ pub struct Found {
     pub places: Vec<Place>,
     /// The files that were passed over since they are not called records, and the links to folders.
     pub others: usize,
+    /// The folders that were given and have no record below them.
+    pub empty: Vec<PathBuf>,
 }
 
 /// Finds the records: each file that is given, and of a folder every file below it whose name ends in
@@ -27,7 +29,13 @@ pub fn find(given: &[PathBuf]) -> Found {
     let mut found = Found::default();
     for path in given {
         match fs::metadata(path) {
-            Ok(about) if about.is_dir() => found.search(path),
+            Ok(about) if about.is_dir() => {
+                let before = found.places.len();
+                found.search(path);
+                if found.places.len() == before {
+                    found.empty.push(path.clone());
+                }
+            }
             // where it is not there, reading it says so
             _ => found.record(path.clone()),
         }

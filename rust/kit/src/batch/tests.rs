@@ -23,6 +23,7 @@ fn two() -> (Found, Vec<Answer>) {
     let found = Found {
         places: vec![place("a.svw"), place("b.svw")],
         others: 0,
+        empty: Vec::new(),
     };
     let judged = Judged {
         judgement: judgement(Level::Neutral),

@@ -5,7 +5,7 @@ mod agreement;
 mod recorded;
 mod tabled;
 
-pub use agreement::{agree, unlike};
+pub use agreement::{agree, unlike, RECORD_AGAIN};
 pub use recorded::{signal_lines, signals, Recorded, Signal};
 pub use tabled::Tabled;
 

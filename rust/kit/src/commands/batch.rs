@@ -79,6 +79,9 @@ fn run(options: &Options, console: &mut Console) -> Outcome {
     if let Some(words) = unsaid(&run, required) {
         console.tell(&words);
     }
+    if !found.empty.is_empty() {
+        return Err(no_record(&found.empty, found.others));
+    }
     status(&run, required)
 }
 

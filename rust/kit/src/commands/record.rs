@@ -157,7 +157,7 @@ fn say(
             windows_report(outputs, plan, windows, run),
             windows_times(outputs, plan, records),
         ),
-        (_, [output, ..], [taken, ..]) => (report(output, plan, taken), times(plan, taken)),
+        (_, [output, ..], [taken, ..]) => (report(output, plan, run, taken), times(plan, taken)),
         _ => (String::new(), String::new()),
     };
     console.say(&said)?;

@@ -1,19 +1,20 @@
 //! What `kit record` says when it is done.
 use crate::beside;
 use crate::files;
-use crate::vcd::{Plan, Run, Taken, Windows};
+use crate::vcd::{Keep, Plan, Run, Taken, Windows};
 use crate::words;
 use std::path::{Path, PathBuf};
 
 /// What was recorded, for a reader.
-pub fn report(output: &Path, plan: &Plan, taken: &Taken) -> String {
+pub fn report(output: &Path, plan: &Plan, run: &Run, taken: &Taken) -> String {
     let output = files::shown(output);
     let count = words::count(taken.samples.len(), "sample");
     let span = span(plan, &taken.times);
     let comma = if span.is_empty() { "" } else { ", " };
     let signals = beside::signal_lines(&beside::signals(plan));
-    let guessed = guessed(plan, taken.guessed);
-    format!("{output}: {count}{comma}{span}\n{signals}{guessed}")
+    let guessed = guessed(plan, run, taken.guessed);
+    let outside = outside(plan, &taken.times);
+    format!("{output}: {count}{comma}{span}\n{outside}{signals}{guessed}")
 }
 
 /// What was recorded in windows, for a reader.
@@ -33,7 +34,7 @@ pub fn windows_report(outputs: &[PathBuf], plan: &Plan, windows: Windows, run: &
         ),
     };
     let signals = beside::signal_lines(&beside::signals(plan));
-    format!("{lines}{signals}{}", guessed(plan, run.guessed()))
+    format!("{lines}{signals}{}", guessed(plan, run, run.guessed()))
 }
 
 /// A line for each sample with its time, aligned.
@@ -61,12 +62,33 @@ fn span(plan: &Plan, times: &[u128]) -> String {
     }
 }
 
+/// That the time of `--around` is before or after all samples, where it is.
+fn outside(plan: &Plan, times: &[u128]) -> String {
+    let Keep::Around(around, _) = plan.keep else {
+        return String::new();
+    };
+    let shown = plan.scale.show(around);
+    match () {
+        () if times.iter().all(|time| *time < around) => {
+            format!("no sample is at {shown} or later\n")
+        }
+        () if times.iter().all(|time| *time > around) => {
+            format!("no sample is at {shown} or before\n")
+        }
+        () => String::new(),
+    }
+}
+
 /// How many values were unknown, where they are read as 0 or 1.
-fn guessed(plan: &Plan, guessed: usize) -> String {
+fn guessed(plan: &Plan, run: &Run, guessed: usize) -> String {
     let Some(value) = plan.unknown.map(u8::from) else {
         return String::new();
     };
     let count = words::count(guessed, "unknown value");
     let were = if guessed == 1 { "was" } else { "were" };
-    format!("{count} {were} read as {value}\n")
+    let clock = match run.clock_read {
+        0 => String::new(),
+        read => format!(", and so {} of the clock", words::count(read, "value")),
+    };
+    format!("{count} {were} read as {value}{clock}\n")
 }

@@ -1,6 +1,6 @@
 //! A record, as text.
 use super::form::{self, RECORD};
-use crate::beside::{self, signal_lines, Beside, Recorded};
+use crate::beside::{self, signal_lines, Beside, Recorded, RECORD_AGAIN};
 use crate::failure::Failure;
 use crate::files;
 use crate::names::{Names, SIGNALS};
@@ -15,7 +15,7 @@ type Text<'a> = (&'a Path, Names);
 pub fn known(path: &Path, bytes: &[u8], text: Option<&Text>) -> Result<Option<Recorded>, Failure> {
     let recorded: Option<Recorded> = beside::known(path, bytes)?;
     if let (Some(recorded), Some((text, names))) = (&recorded, text) {
-        beside::agree((text, names), &[], (path, &recorded.names()))?;
+        beside::agree((text, names), &[], (path, &recorded.names()), RECORD_AGAIN)?;
     }
     Ok(recorded)
 }

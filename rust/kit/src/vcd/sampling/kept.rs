@@ -142,14 +142,15 @@ impl Kept {
         Some((place, self.before.get(place)?))
     }
 
-    /// The samples.
-    pub fn run(self) -> Run {
+    /// The samples, where so many unknown values of the clock were read as the plan says.
+    pub fn run(self, clock_read: usize) -> Run {
         let before = self.before.into_iter().filter_map(|seen| match seen {
             Seen::Sample(sample) => Some(sample),
             _ => None,
         });
         Run {
             samples: before.chain(self.after).collect(),
+            clock_read,
         }
     }
 }

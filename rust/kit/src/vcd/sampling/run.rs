@@ -7,6 +7,8 @@ use super::Keep;
 pub struct Run {
     /// The samples.
     pub samples: Vec<Sample>,
+    /// How many times the clock went to an unknown value, which was read as the plan says.
+    pub clock_read: usize,
 }
 
 /// The samples of one record.

@@ -20,6 +20,8 @@ pub struct Sampler<'a> {
     valued: bool,
     /// Whether the time that is being read has had a value, of any variable.
     given: bool,
+    /// How many times the clock went to an unknown value.
+    clock_read: usize,
     pub kept: Kept,
 }
 
@@ -33,6 +35,7 @@ impl<'a> Sampler<'a> {
             due: None,
             valued: false,
             given: false,
+            clock_read: 0,
             kept: Kept::of(plan.keep),
         }
     }
@@ -115,7 +118,7 @@ impl<'a> Sampler<'a> {
         }
         match self.kept.count() == 0 && !self.full() {
             true => Err(Wrong::Whole(self.none())),
-            false => Ok(self.kept.run()),
+            false => Ok(self.kept.run(self.clock_read)),
         }
     }
 
@@ -136,6 +139,7 @@ impl<'a> Sampler<'a> {
         if before == Bit::Nothing || time < from {
             return Ok(());
         }
+        self.clock_read += usize::from(before != after && after.known().is_none());
         let unclear = unlike(before, after) || hidden(before, after, time, from);
         let unclear = unclear && self.plan.unknown.is_none();
         let seen = edge.between(self.read(before), self.read(after));
