@@ -15,10 +15,11 @@ use crate::names::{begins_name, in_name, Names};
 use crate::sha256;
 use crate::words;
 use serde::{de::DeserializeOwned, Deserialize, Serialize};
-use std::io;
+use std::io::ErrorKind::{InvalidFilename, NotFound};
 use std::path::{Path, PathBuf};
 
-/// The bytes of such a file, at most: 63 samples and 64 signals with long paths have far fewer.
+/// The bytes of such a file, at most: 63 samples and 64 signals have far fewer, but where the paths are
+/// very long.
 const LONGEST: u64 = 1 << 20;
 
 /// What a command writes beside a file of its own.
@@ -54,14 +55,6 @@ pub trait Beside: Serialize + DeserializeOwned {
         }
         names
     }
-
-    /// The bytes of the file.
-    fn json(&self) -> Vec<u8> {
-        // strings and numbers alone, which are always written
-        let mut json = serde_json::to_vec_pretty(self).unwrap_or_default();
-        json.push(b'\n');
-        json
-    }
 }
 
 /// A file by its name and its contents.
@@ -95,6 +88,21 @@ pub fn path(file: &Path) -> PathBuf {
     PathBuf::from(path)
 }
 
+/// The bytes of the file that is written beside one.
+pub fn bytes<T: Beside>(file: &Path, known: &T) -> Result<Vec<u8>, Failure> {
+    // strings and numbers alone, which are always written
+    let mut json = serde_json::to_vec_pretty(known).unwrap_or_default();
+    json.push(b'\n');
+    match json.len() as u64 > LONGEST {
+        true => Err(Failure::Failed(format!(
+            "{}: cannot be written: it would be longer than a mebibyte, for the names, paths or comment that it \
+             tells are too long",
+            shown(&path(file))
+        ))),
+        false => Ok(json),
+    }
+}
+
 /// What is known of a file with these bytes, which are accepted; nothing where no file stands beside it.
 /// One that does must be of these very bytes.
 pub fn known<T: Beside>(file: &Path, bytes: &[u8]) -> Result<Option<T>, Failure> {
@@ -119,7 +127,8 @@ pub fn known<T: Beside>(file: &Path, bytes: &[u8]) -> Result<Option<T>, Failure>
 pub fn read<T: Beside>(file: &Path) -> Result<Option<T>, Failure> {
     let path = path(file);
     let bytes = match files::read_some(&path, LONGEST + 1) {
-        Err(error) if error.kind() == io::ErrorKind::NotFound => return Ok(None),
+        // a name as long as names can be has no room for the ending, so nothing stands there
+        Err(error) if matches!(error.kind(), NotFound | InvalidFilename) => return Ok(None),
         Err(error) => return Err(files::unreadable(&path, &error)),
         Ok(bytes) => bytes,
     };

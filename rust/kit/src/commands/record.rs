@@ -10,7 +10,7 @@ use crate::beside::Identity;
 use crate::console::Console;
 use crate::failure::{Outcome, DONE};
 use crate::options::{Options, Spec};
-use crate::output::{write_whole, FORCE};
+use crate::output::{Whole, FORCE};
 use crate::vcd::{self, Changes, Keep, Plan, Run, Taken};
 use outputs::outputs;
 use report::{report, times, windows_report, windows_times};
@@ -132,14 +132,14 @@ fn run(options: &Options, console: &mut Console) -> Outcome {
     };
     let records = run.records(plan.keep);
     let outputs = outputs(&request.output, &plan, &records)?;
-    let mut files = Vec::new();
+    let mut whole = Whole::new();
     for (output, taken) in outputs.iter().zip(&records) {
         request.may_write(output)?;
         let both = written::files(output, (&plan, taken), &identity, options.words())?;
-        files.extend(both);
+        whole.write(&both)?;
     }
-    // all are made before the first is written
-    write_whole(&files)?;
+    // all are made before the first is in its place
+    whole.place()?;
     say(&outputs, &plan, &run, &records, options, console)
 }
 

@@ -118,7 +118,7 @@ fn run(options: &Options, console: &mut Console) -> Outcome {
         notation::comment(&text),
         &read.names,
     );
-    write_whole(&output::with_beside(&output, table.clone(), &tabled))?;
+    write_whole(&output::with_beside(&output, table.clone(), &tabled)?)?;
     let shown = files::shown(&output);
     let summary = summary(&read.assertion);
     let whole = notation::phrase(&read.assertion, read.assertion.root(), &read.names);

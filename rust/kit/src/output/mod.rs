@@ -11,7 +11,7 @@ use crate::files::{self, shown};
 use crate::options::Options;
 use std::fs;
 use std::path::{Path, PathBuf};
-pub use whole::write_whole;
+pub use whole::{write_whole, Whole};
 
 /// What a command writes.
 pub struct Kind {
@@ -29,7 +29,7 @@ pub struct Kind {
     pub beside: Option<fn(&Path) -> bool>,
 }
 
-/// The options that go with `-o`.
+/// The option that goes with `-o`: any file but an input is written over.
 pub const FORCE: &str = "--force";
 
 /// Where a result goes.
@@ -72,9 +72,7 @@ impl Output {
             () => Ok(Output::File { path, force }),
         }
     }
-}
 
-impl Output {
     /// Asks that the file may be written, before any work is done for it.
     pub fn may_write(&self, kind: &Kind, inputs: &[&Path]) -> Result<(), Failure> {
         match self {
@@ -145,12 +143,15 @@ fn untouched(path: &Path, inputs: &[&Path]) -> Result<(), Failure> {
 
 /// Asks that what stands at a path, if anything, is a file that may be written over.
 fn replaced(path: &Path, kind: &Kind, may: &dyn Fn() -> bool) -> Result<(), Failure> {
-    let Ok(about) = fs::metadata(path) else {
-        return Ok(());
-    };
     let cannot = |why: &str| {
         let name = shown(path);
         Err(Failure::Failed(format!("{name}: cannot be written: {why}")))
+    };
+    let Ok(about) = fs::metadata(path) else {
+        return match fs::symlink_metadata(path).is_ok_and(|about| about.is_symlink()) {
+            true => cannot("this is a link to a file that is not there"),
+            false => Ok(()),
+        };
     };
     match about.is_file() {
         false if about.is_dir() => cannot("this is a folder"),
@@ -177,11 +178,15 @@ pub fn own_beside<T: Beside>(path: &Path) -> bool {
 
 /// A file, and before it the one that stands beside it: where the writing is cut off between the two, the
 /// one beside speaks of other bytes, and that is noticed.
-pub fn with_beside<T: Beside>(path: &Path, bytes: Vec<u8>, known: &T) -> [(PathBuf, Vec<u8>); 2] {
-    [
-        (beside::path(path), known.json()),
+pub fn with_beside<T: Beside>(
+    path: &Path,
+    bytes: Vec<u8>,
+    known: &T,
+) -> Result<[(PathBuf, Vec<u8>); 2], Failure> {
+    Ok([
+        (beside::path(path), beside::bytes(path, known)?),
         (path.to_path_buf(), bytes),
-    ]
+    ])
 }
 
 /// The first bytes of a file that stands where one is to be written.

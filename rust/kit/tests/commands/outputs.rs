@@ -244,3 +244,66 @@ fn what_is_no_ordinary_file_is_never_replaced() {
         );
     }
 }
+
+/// What is written first has a short name, so that a result may have the longest.
+#[test]
+fn a_name_may_be_as_long_as_names_can_be() {
+    for (command, _, ending) in WRITING {
+        let bench = Bench::new();
+        let letters = match command {
+            "picture" => 251,
+            // the one beside it has five letters more
+            _ => 246,
+        };
+        let output = bench
+            .folder
+            .path(&format!("{}{ending}", "x".repeat(letters)));
+        let ran = bench.run(command, &output, &[]);
+        assert_eq!((ran.status, ran.err.as_str()), (0, ""));
+    }
+    // a record whose name has no room for the one beside it has none
+    let folder = Folder::new();
+    let record = folder.path(&format!("{}.svw", "x".repeat(251)));
+    fs::copy(example("flush.svw"), &record).unwrap();
+    assert_eq!(kit(["show", record.as_str()]).status, 0);
+}
+
+#[test]
+fn a_link_to_nothing_is_kept() {
+    for (command, _, ending) in WRITING {
+        let bench = Bench::new();
+        let link = bench.folder.path(&format!("link{ending}"));
+        symlink("gone", &link).unwrap();
+        let ran = bench.run(command, &link, &["--force"]);
+        let told = format!(
+            "kit {command}: {link}: cannot be written: this is a link to a file that is not there\n"
+        );
+        assert_eq!((ran.status, ran.err), (4, told));
+        assert!(fs::symlink_metadata(&link).unwrap().is_symlink());
+    }
+}
+
+/// What would be too long to be read again is not written.
+#[test]
+fn paths_that_are_too_long_to_tell_are_refused() {
+    let folder = Folder::new();
+    let (mut header, mut signals) = (String::new(), Vec::new());
+    for number in 0..20 {
+        let module = "m".repeat(60_000);
+        header += &format!(
+            "$scope module {module}{number} $end $var wire 1 {number} w{number} $end $upscope $end\n"
+        );
+        signals.push(format!("s{number}=w{number}"));
+    }
+    let values: String = (0..20).map(|number| format!(" 0{number}")).collect();
+    let wave = format!("{header}$enddefinitions $end\n#0{values}\n");
+    let wave = folder.file("in.vcd", &wave);
+    let output = folder.path("x.svw");
+    let list = signals.join(",");
+    let ran = kit(["record", &wave, "--signals", &list, "-o", &output]);
+    assert_eq!(ran.status, 4);
+    assert!(ran
+        .err
+        .contains("x.svw.json: cannot be written: it would be longer than a mebibyte"));
+    assert_eq!(left(&folder), [""; 0]);
+}

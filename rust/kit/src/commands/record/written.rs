@@ -27,7 +27,7 @@ pub fn files(
     let record = record(path, &taken.samples)?;
     let identity = Identity::of(path, &record);
     let recorded = Recorded::of((plan, taken), identity, waveform.clone(), options);
-    Ok(output::with_beside(path, record, &recorded))
+    output::with_beside(path, record, &recorded)
 }
 
 /// The bytes of a record, which the proved reading gives back as these samples.
