@@ -12,6 +12,7 @@ use super::header::{self, Header};
 use super::tokens::Tokens;
 use super::unreadable;
 use crate::failure::Failure;
+use crate::words;
 use hashed::Hashed;
 use kind::Kind;
 use std::fmt;
@@ -65,9 +66,10 @@ impl fmt::Display for Told {
 
 impl std::error::Error for Told {}
 
-/// The error with these words.
+/// The error with these words, in which a stream's own may stand.
 fn told(words: impl Into<String>) -> io::Error {
-    io::Error::other(Told(words.into()))
+    let told: String = words.into();
+    io::Error::other(Told(told.chars().map(words::printable).collect()))
 }
 
 /// Opens a waveform, `-` for standard input, and reads its header.

@@ -4,7 +4,6 @@ mod piped;
 
 use super::stored::Stored;
 use super::{told, Source};
-use crate::words;
 use piped::Piped;
 use std::io::{self, Read};
 use std::path::Path;
@@ -114,6 +113,5 @@ fn first_words(mut messages: ChildStderr) -> String {
     let _ = messages.by_ref().take(MESSAGE).read_to_end(&mut bytes);
     let _ = io::copy(&mut messages, &mut io::sink());
     let text = String::from_utf8_lossy(&bytes).into_owned();
-    let text = text.split_whitespace().collect::<Vec<_>>().join(" ");
-    text.chars().map(words::printable).collect()
+    text.split_whitespace().collect::<Vec<_>>().join(" ")
 }

@@ -1,5 +1,6 @@
 //! The SHA-256 of a stream, taken while it is read, so that no second reading is needed.
 use super::Source;
+use crate::sha256;
 use sha2::{Digest, Sha256};
 use std::io::{self, BufReader, Read};
 
@@ -29,8 +30,7 @@ impl<R: Read> Hashed<R> {
     pub fn finish(mut self) -> io::Result<String> {
         let mut rest = BufReader::with_capacity(1 << 16, &mut self);
         io::copy(&mut rest, &mut io::sink())?;
-        let bytes = self.hash.finalize();
-        Ok(bytes.iter().map(|byte| format!("{byte:02x}")).collect())
+        Ok(sha256::hex(self.hash))
     }
 }
 

@@ -6,6 +6,7 @@ mod text;
 use super::stored::Stored;
 use super::zip::Archive;
 use super::{told, Source};
+use crate::words;
 use metadata::Metadata;
 use std::collections::VecDeque;
 use std::io::{self, Cursor, Read};
@@ -65,12 +66,16 @@ fn pieces(archive: &Archive, metadata: &Metadata) -> io::Result<VecDeque<String>
     };
     if archive.names().filter(is_one).count() != count {
         let missing = numbered(count.saturating_add(1));
+        let missing = words::shortened(&missing);
         return Err(wrong(&format!("{missing} is missing in it")));
     }
     let whole = Some(capture.clone()).filter(|name| archive.has(name));
     let pieces: VecDeque<String> = whole.into_iter().chain((1..=count).map(numbered)).collect();
     match pieces.is_empty() && !metadata.logic.is_empty() {
-        true => Err(wrong(&format!("its samples, {capture}, are missing in it"))),
+        true => {
+            let capture = words::shortened(capture);
+            Err(wrong(&format!("its samples, {capture}, are missing in it")))
+        }
         false => Ok(pieces),
     }
 }

@@ -1,17 +1,11 @@
 //! The digest of a waveform's bytes as they are stored, however much of them was read.
 use super::*;
+use crate::sha256::of as whole;
 use flate2::write::GzEncoder;
 use flate2::Compression;
-use sha2::{Digest, Sha256};
 use std::io::Write;
 
 const HEADER: &str = "$var wire 1 ! a $end $enddefinitions $end\n";
-
-/// The digest of these bytes, in one piece.
-fn whole(bytes: &[u8]) -> String {
-    let bytes = Sha256::digest(bytes);
-    bytes.iter().map(|byte| format!("{byte:02x}")).collect()
-}
 
 /// Opens what a stream gives, and reads so many words after the header.
 fn opened(bytes: &[u8], words: usize) -> Opened {
@@ -73,4 +67,24 @@ fn what_is_taken_into_memory_has_a_bound() {
     assert_eq!(whole.length().unwrap(), 4);
     let words = taken(b"PK\x03\x04\x05").err().unwrap().to_string();
     assert!(words.starts_with("this is a ZIP archive of over 256 MiB"));
+}
+
+#[test]
+fn a_gzip_header_without_an_end_is_not_read_to_its_end() {
+    // the mark, and the flag of a name, which ends with a 0
+    let header = b"\x1f\x8b\x08\x08\0\0\0\0\0\x03";
+    let endless = Cursor::new(header).chain(io::repeat(b'a'));
+    let words = of_stream(endless, None).err().unwrap().to_string();
+    assert!(
+        words.ends_with("damaged: 16777216 bytes of it have no text"),
+        "{words}"
+    );
+    // members without a text are passed over
+    let members = [gzip(b"").repeat(50_000), gzip(HEADER.as_bytes())].concat();
+    assert_eq!(opened(&members, 0).digest().unwrap(), whole(&members));
+}
+
+#[test]
+fn what_a_file_says_of_itself_does_no_harm_in_a_message() {
+    assert_eq!(told("a\x1b[31m\nb").to_string(), "a\u{fffd}[31m\u{fffd}b");
 }

@@ -78,13 +78,13 @@ mod tests {
     use super::*;
 
     /// Gives a byte, and another one after a while.
-    struct Slow(u8);
+    struct Slow(u8, Duration);
 
     impl Read for Slow {
         fn read(&mut self, buffer: &mut [u8]) -> io::Result<usize> {
             self.0 += 1;
             if self.0 == 2 {
-                thread::sleep(Duration::from_millis(1500));
+                thread::sleep(self.1);
             }
             buffer[0] = self.0;
             Ok(usize::from(self.0 < 3))
@@ -116,9 +116,11 @@ mod tests {
     #[test]
     fn a_silence_that_is_too_long_is_told() {
         let mut read = Vec::new();
-        let mut patient = Piped::of(Slow(0), Duration::from_secs(60));
+        let (short, long) = (Duration::from_secs(1), Duration::from_secs(3600));
+        let mut patient = Piped::of(Slow(0, short), long);
         assert_eq!(patient.read_to_end(&mut read).unwrap(), 2);
-        let mut hasty = Piped::of(Slow(0), Duration::from_secs(1));
+        // the thread that sleeps ends with the tests
+        let mut hasty = Piped::of(Slow(0, long), short);
         let words = hasty.read_to_end(&mut read).unwrap_err().to_string();
         assert!(words.contains("gave nothing for 1 seconds and was ended"));
     }

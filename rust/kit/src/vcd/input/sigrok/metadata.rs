@@ -1,4 +1,5 @@
 //! What a session says of itself: lines `key=value` under a section for the device.
+use crate::words;
 
 /// The number of a channel, at most.
 const CHANNELS: usize = 1 << 16;
@@ -46,7 +47,10 @@ impl Metadata {
             return Ok(());
         };
         let (key, value) = (key.trim(), unescaped(value.trim()));
-        let wrong = || format!("{key}={value} in its metadata is not understood");
+        let wrong = || {
+            let line = words::shortened(&format!("{key}={value}"));
+            format!("{line} in its metadata is not understood")
+        };
         match key {
             "samplerate" => self.rate = Some(rate(&value).ok_or_else(wrong)?),
             "unitsize" => self.unit = value.parse().map_err(|_| wrong())?,
@@ -64,10 +68,13 @@ impl Metadata {
 
     /// Asks that a sample has a bit for each channel, and each channel a name that can be written.
     fn check(self) -> Result<Metadata, String> {
-        let most = self.unit.saturating_mul(8);
+        let unit = self.unit;
+        if unit > LONGEST {
+            return Err(format!("unitsize={unit} in its metadata is over {LONGEST}"));
+        }
         if let Some((last, name)) = self.logic.last() {
-            if *last > most || self.unit > LONGEST || self.capture.is_none() {
-                let unit = self.unit;
+            if *last > unit.saturating_mul(8) || self.capture.is_none() {
+                let name = words::shortened(name);
                 return Err(format!(
                     "its metadata does not fit: channel {last}, {name}, and unitsize={unit}"
                 ));
@@ -193,7 +200,12 @@ mod tests {
             "its metadata does not fit: channel 9, a, and unitsize=1"
         );
         assert!(told("unitsize=1\nprobe8=a").contains("does not fit"));
-        assert!(told("capturefile=l\nunitsize=9999\nprobe1=a").contains("does not fit"));
+        // with channels and without, or a sample would be waited for that has no end
+        for channel in ["probe1=a", "analog1=a"] {
+            let words = told(&format!("capturefile=l\nunitsize=8193\n{channel}"));
+            assert_eq!(words, "unitsize=8193 in its metadata is over 8192");
+        }
+        assert!(told(&format!("samplerate={}", "f".repeat(9999))).len() < 200);
         assert_eq!(
             told("samplerate=fast"),
             "samplerate=fast in its metadata is not understood"
