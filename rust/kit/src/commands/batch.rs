@@ -51,38 +51,51 @@ fn run(options: &Options, console: &mut Console) -> Outcome {
     };
     let run = batch::judge_all(&by, &found.places, &mut watch);
     progress.erase();
-    let whole = begun.elapsed();
-    if options.flag("--list") {
-        console.say_all(batch::list(&found, &run))?;
-        console.say("\n")?;
-    }
     let report = Report {
         found: &found,
         run: &run,
         required,
-        whole,
+        whole: begun.elapsed(),
     };
-    console.say(&report.table())?;
     let alone = match engines.engine() {
         Engine::Plain => engine::alone(engines.past()),
         _ => String::new(),
     };
     let note = once::note(reaching.assertion(), &source.names, options);
-    if !alone.is_empty() || !note.is_empty() {
-        console.say(&format!("\n{alone}{note}"))?;
+    let list = options.flag("--list");
+    say(&report, list, &format!("{alone}{note}"), console)?;
+    match (status(&run, required)?, found.empty.is_empty()) {
+        (status, true) => Ok(status),
+        (_, false) => Err(no_record(&found.empty, found.others)),
     }
-    let mut names = batch::names(&found, &run, required).peekable();
+}
+
+/// Says what became of the records: of each where a list is asked for, of all in numbers, more on the
+/// assertion, and the names of those that ask for a look.
+fn say(report: &Report, list: bool, more: &str, console: &mut Console) -> Result<(), Failure> {
+    let Report {
+        found,
+        run,
+        required,
+        ..
+    } = report;
+    if list {
+        console.say_all(batch::list(found, run))?;
+        console.say("\n")?;
+    }
+    console.say(&report.table())?;
+    if !more.is_empty() {
+        console.say(&format!("\n{more}"))?;
+    }
+    let mut names = batch::names(found, run, *required).peekable();
     if names.peek().is_some() {
         console.say("\n")?;
         console.say_all(names)?;
     }
-    if let Some(words) = unsaid(&run, required) {
+    if let Some(words) = unsaid(run, *required) {
         console.tell(&words);
     }
-    if !found.empty.is_empty() {
-        return Err(no_record(&found.empty, found.others));
-    }
-    status(&run, required)
+    Ok(())
 }
 
 /// The table and its engines, unless they refuse it on no samples, with 12 and 13 too. Where only the plain

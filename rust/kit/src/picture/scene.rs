@@ -94,12 +94,7 @@ impl Scene {
     ) -> Result<Scene, Unjudged> {
         let account = verdict::account(engines, table, names, samples)?;
         let assertion = Assertion::of_table(table)?.tidy();
-        let boolean = |index: usize| -> Result<Trace, Refusal> {
-            Ok(Trace {
-                name: notation::phrase(&assertion, index, names),
-                values: verdict::satisfied(&assertion, index, samples)?,
-            })
-        };
+        let boolean = |index: usize| boolean(&assertion, index, names, samples);
         let change = |index: usize| -> Result<Change, Refusal> {
             Ok(Change {
                 rises: assertion.node(index).operator == Operator::Rose,
@@ -113,6 +108,7 @@ impl Scene {
         let explained = account.explained.iter();
         let implications = explained.flat_map(|explained| &explained.implications);
         let implications = implications.map(|implication| row(implication, samples.len()));
+        let clocks = assertion.clocks().into_iter().map(boolean);
         Ok(Scene {
             comment: None,
             decisive: why(&account),
@@ -123,11 +119,7 @@ impl Scene {
             signs: account.signs,
             implications: implications.collect(),
             assertion: account.assertion,
-            clocks: assertion
-                .clocks()
-                .into_iter()
-                .map(boolean)
-                .collect::<Result<_, _>>()?,
+            clocks: clocks.collect::<Result<_, _>>()?,
             changes: changing(&assertion).map(change).collect::<Result<_, _>>()?,
             signals: shown(&assertion, names).into_iter().map(signal).collect(),
             verdict: account.verdict,
@@ -145,6 +137,19 @@ impl Scene {
     pub fn timed(&self) -> bool {
         (0..self.verdict.samples()).any(|sample| self.time(sample).is_some())
     }
+}
+
+/// A boolean of the assertion, and the samples that satisfy it.
+fn boolean(
+    assertion: &Assertion,
+    index: usize,
+    names: &Names,
+    samples: &[u64],
+) -> Result<Trace, Refusal> {
+    Ok(Trace {
+        name: notation::phrase(assertion, index, names),
+        values: verdict::satisfied(assertion, index, samples)?,
+    })
 }
 
 /// From where to where the decisive part was asked, and what came of it.
