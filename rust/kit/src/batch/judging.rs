@@ -195,16 +195,20 @@ impl<'s, 'a, 'b> Worker<'s, 'a, 'b> {
             }
         };
         let By { names, asked, .. } = self.shared.by;
-        if recorded.is_none() || names.all().is_empty() {
-            self.shared.unnamed.fetch_add(1, Ordering::Relaxed);
-        }
-        let unlike = beside::unlike(names, asked, &recorded?.names());
-        let unlike = unlike.iter().map(|it| {
+        let other = recorded.as_ref().map(Recorded::names);
+        let unlike = other.map(|other| beside::unlike(names, asked, &other));
+        let unlike = unlike.iter().flatten().map(|it| {
             let words = it.words("the assertion", "the record");
             format!("signal {} is {words}", it.number())
         });
         let unlike = unlike.collect::<Vec<_>>().join("; ");
-        (!unlike.is_empty()).then_some(unlike)
+        if !unlike.is_empty() {
+            return Some(unlike);
+        }
+        if recorded.is_none() || names.all().is_empty() {
+            self.shared.unnamed.fetch_add(1, Ordering::Relaxed);
+        }
+        None
     }
 
     /// Judges the record that was read.

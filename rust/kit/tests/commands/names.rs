@@ -381,6 +381,13 @@ fn the_names_of_a_record_do_for_a_table_that_has_none() {
         ran.out
     );
     let two = bench.record("two.svw", "ack=ack,drop=drop");
+    // one that is not judged is none of those either
+    let ran = kit(["batch", &example("flush.svt"), &two]);
+    assert!(
+        ran.out.contains("\nmismatched  ") && !ran.out.contains("names not known"),
+        "{}",
+        ran.out
+    );
     let ran = kit(["judge", &example("flush.svt"), &two]);
     let line = format!(
         "\n  signal 2  s2 in {}, not there in {two}\n",
