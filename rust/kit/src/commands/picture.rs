@@ -144,5 +144,6 @@ Example:
 
 The status is 0 when the picture is written, 2 for a wrong command line, 3 where the table or the
 record is refused, 4 where a file cannot be read, written or understood, and 5 where the engines
-differ. Only with status 0 is anything written.
+differ. Only with status 0 is anything written, but where standard output cannot take the answer:
+that is 4, and the picture is there.
 ";

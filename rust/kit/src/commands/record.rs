@@ -113,7 +113,8 @@ Example:
   signal 2  strobe  bench.strobe
 
 The status is 0 when the record is written, 2 for a wrong command line, and 4 where a file cannot be
-read, written or understood, or does not have the samples. Only with status 0 is anything written.
+read, written or understood, or does not have the samples. Only with status 0 is anything written,
+but where standard output cannot take the answer: that is 4, and the record is there.
 ";
 
 fn run(options: &Options, console: &mut Console) -> Outcome {

@@ -94,7 +94,8 @@ Example:
 
 The status is 0 when the table is written, 2 for a wrong command line, 3 where the proved check
 refuses the table, and 4 where a file cannot be read or written or the text has a mistake, which is
-shown with its line and column. Only with status 0 is anything written.
+shown with its line and column. Only with status 0 is anything written, but where standard output
+cannot take the answer: that is 4, and the table is there.
 ";
 
 fn run(options: &Options, console: &mut Console) -> Outcome {
