@@ -77,8 +77,15 @@ fn fst2vcd_is_ended_where_the_rest_is_not_needed() {
     let wave = example("waves/drive-lost.fst");
     // the text never ends
     let endless = format!("{vcd} /dev/zero");
-    let said = run(&fake(), &["signals", &wave], &[("FAKE_VCD", &endless)]);
+    let number = folder.path("number");
+    let settings = [("FAKE_VCD", endless.as_str()), ("FAKE_NUMBER", &number)];
+    let gone = || {
+        let number = std::fs::read_to_string(&number).unwrap();
+        assert!(!Path::new("/proc").join(number.trim()).exists(), "{number}");
+    };
+    let said = run(&fake(), &["signals", &wave], &settings);
     assert_eq!((said.status.code(), text(&said.stdout)), (Some(0), SIGNALS));
+    gone();
     let out = folder.path("out.svw");
     let words = [
         "record",
@@ -90,8 +97,9 @@ fn fst2vcd_is_ended_where_the_rest_is_not_needed() {
         "-o",
         &out,
     ];
-    let said = run(&fake(), &words, &[("FAKE_VCD", &endless)]);
+    let said = run(&fake(), &words, &settings);
     assert!(said.status.success(), "{}", text(&said.stderr));
+    gone();
 }
 
 #[test]
