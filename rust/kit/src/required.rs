@@ -14,6 +14,8 @@ pub struct Required {
     pub tested: bool,
     /// Whether the record must ask every `|->`.
     pub asked: bool,
+    /// Whether the assertion and the record must be known to mean the same signals.
+    pub named: bool,
 }
 
 impl Required {
@@ -34,6 +36,7 @@ impl Required {
             level,
             tested: options.flag("--tested"),
             asked: options.flag("--asked"),
+            named: options.flag("--named"),
         })
     }
 
@@ -48,8 +51,11 @@ impl Required {
         let level = level.map(|level| (level, self.level_reached(record)));
         let tested = ("tested".to_string(), record.judgement.tested);
         let asked = ("asked".to_string(), record.asked == Some(true));
+        let named = ("named".to_string(), record.named);
         let (tested, asked) = (self.tested.then_some(tested), self.asked.then_some(asked));
-        [level, tested, asked].into_iter().flatten().collect()
+        let named = self.named.then_some(named);
+        let each = [level, tested, asked, named];
+        each.into_iter().flatten().collect()
     }
 
     /// Whether all that is required is reached.
@@ -57,6 +63,7 @@ impl Required {
         self.level_reached(record)
             && (record.judgement.tested || !self.tested)
             && (record.asked == Some(true) || !self.asked)
+            && (record.named || !self.named)
     }
 
     /// Whether a record is broken and the status does not say it, since no level is required.
@@ -75,7 +82,9 @@ impl Required {
         let level = self.level.map(|level| format!("level {level} or more"));
         let tested = self.tested.then(|| "tested".to_string());
         let asked = self.asked.then(|| "every |-> asked".to_string());
-        let all: Vec<String> = [level, tested, asked].into_iter().flatten().collect();
+        let named = self.named.then(|| "names agreed".to_string());
+        let all = [level, tested, asked, named];
+        let all: Vec<String> = all.into_iter().flatten().collect();
         words::list(&all)
     }
 }

@@ -46,8 +46,6 @@ pub struct Run<'a> {
     pub answers: Vec<Answer>,
     /// The record that took the longest to judge, reading not counted.
     pub slowest: Option<(Duration, &'a Path)>,
-    /// How many were judged of which nothing says that their signals are the table's.
-    pub unnamed: usize,
 }
 
 /// What all records are judged by.
@@ -68,7 +66,6 @@ type Parts<'a, 'b> = Zip<Chunks<'a, Place>, ChunksMut<'b, Answer>>;
 /// What the threads share.
 struct Shared<'a, 'b> {
     by: &'a By<'a>,
-    unnamed: AtomicUsize,
     parts: Mutex<Parts<'a, 'b>>,
     done: AtomicUsize,
     slowest: Mutex<Option<(Duration, &'a Path)>>,
@@ -81,7 +78,6 @@ pub fn judge_all<'a>(by: &'a By<'a>, places: &'a [Place], watch: &mut dyn FnMut(
     answers.resize_with(places.len(), || Answer::Unreadable(String::new()));
     let shared = Shared {
         by,
-        unnamed: AtomicUsize::new(0),
         parts: Mutex::new(places.chunks(PART).zip(answers.chunks_mut(PART))),
         done: AtomicUsize::new(0),
         slowest: Mutex::new(None),
@@ -90,12 +86,7 @@ pub fn judge_all<'a>(by: &'a By<'a>, places: &'a [Place], watch: &mut dyn FnMut(
     run_threads(&shared, most.min(places.len().div_ceil(PART)), watch);
     let slowest = shared.slowest.into_inner();
     let slowest = slowest.unwrap_or_else(PoisonError::into_inner);
-    let unnamed = shared.unnamed.into_inner();
-    Run {
-        answers,
-        slowest,
-        unnamed,
-    }
+    Run { answers, slowest }
 }
 
 /// Runs the threads to their end. Where none can be started the work is done here.
@@ -176,39 +167,36 @@ impl<'s, 'a, 'b> Worker<'s, 'a, 'b> {
             Ok(judged) => {
                 let time = (begun.elapsed(), place.path.as_path());
                 self.slowest = self.slowest.max(Some(time));
-                match self.mismatch(&place.path) {
-                    None => Answer::Judged(judged),
-                    Some(why) => Answer::Mismatched(why),
+                match self.named(&place.path) {
+                    Ok(named) => Answer::Judged(Judged { named, ..judged }),
+                    Err(why) => Answer::Mismatched(why),
                 }
             }
         }
     }
 
-    /// Why the file beside a record does not fit it, or the table, if it does not.
-    fn mismatch(&self, record: &Path) -> Option<String> {
+    /// Whether the assertion and a record are known to mean the same signals, or why they do not, or what
+    /// stands beside the record does not fit it.
+    fn named(&self, record: &Path) -> Result<bool, String> {
         let own = format!("{}: ", files::shown(record));
-        let recorded: Option<Recorded> = match beside::known(record, &self.bytes) {
-            Ok(recorded) => recorded,
-            Err(failure) => {
-                let words = failure.words();
-                return Some(words.strip_prefix(&own).unwrap_or(words).to_string());
-            }
-        };
+        let recorded: Option<Recorded> = beside::known(record, &self.bytes).map_err(|failure| {
+            let words = failure.words();
+            words.strip_prefix(&own).unwrap_or(words).to_string()
+        })?;
         let By { names, asked, .. } = self.shared.by;
-        let other = recorded.as_ref().map(Recorded::names);
-        let unlike = other.map(|other| beside::unlike(names, asked, &other));
-        let unlike = unlike.iter().flatten().map(|it| {
+        let Some(recorded) = recorded else {
+            return Ok(false);
+        };
+        let unlike = beside::unlike(names, asked, &recorded.names());
+        let unlike = unlike.iter().map(|it| {
             let words = it.words("the assertion", "the record");
             format!("signal {} is {words}", it.number())
         });
         let unlike = unlike.collect::<Vec<_>>().join("; ");
-        if !unlike.is_empty() {
-            return Some(unlike);
+        match unlike.is_empty() {
+            true => Ok(!names.all().is_empty()),
+            false => Err(unlike),
         }
-        if recorded.is_none() || names.all().is_empty() {
-            self.shared.unnamed.fetch_add(1, Ordering::Relaxed);
-        }
-        None
     }
 
     /// Judges the record that was read.

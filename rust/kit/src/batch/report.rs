@@ -32,7 +32,7 @@ impl Report<'_> {
         rows.push(row("unreadable", unreadable, ""));
         let mismatched = self.count(|answer| matches!(answer, Answer::Mismatched(_)));
         if mismatched > 0 {
-            let words = "the file beside them speaks of other signals, or of other bytes";
+            let words = "what stands beside them speaks of other signals, of other bytes, or cannot be read";
             rows.push(row("mismatched", mismatched, words));
         }
         let differ = self.count(|answer| matches!(answer, Answer::Differ(_)));
@@ -104,10 +104,11 @@ impl Report<'_> {
         let words = format!("of {judged} judged: no strong and no weak was reached");
         rows.push(row("not tested", untested, &words));
         rows.push(self.never_asked(judged));
-        if self.run.unnamed > 0 {
+        let unnamed = self.judged(|it| !it.named);
+        if unnamed > 0 {
             let words =
                 format!("of {judged} judged: nothing says that their signals are the table's");
-            rows.push(row("names not known", self.run.unnamed, &words));
+            rows.push(row("names not known", unnamed, &words));
         }
         if self.required.asks() {
             let reached = self.judged(|it| self.required.reached(*it));

@@ -28,6 +28,7 @@ fn two() -> (Found, Vec<Answer>) {
     let judged = Judged {
         judgement: judgement(Level::Neutral),
         asked: Some(true),
+        named: true,
     };
     let difference = Difference {
         fast: Ok(judgement(Level::Strong)),
@@ -46,7 +47,6 @@ fn a_difference_is_counted_listed_and_named() {
     let run = Run {
         answers,
         slowest: None,
-        unnamed: 0,
     };
     let report = Report {
         found: &found,

@@ -15,12 +15,13 @@ use crate::names::{begins_name, in_name, Names};
 use crate::sha256;
 use crate::words;
 use serde::{de::DeserializeOwned, Deserialize, Serialize};
+use std::fs;
 use std::io::ErrorKind::{InvalidFilename, NotFound};
 use std::path::{Path, PathBuf};
 
 /// The bytes of such a file, at most: 63 samples and 64 signals have far fewer, but where the paths are
 /// very long.
-const LONGEST: u64 = 1 << 20;
+pub const LONGEST: u64 = 1 << 20;
 
 /// What a command writes beside a file of its own.
 pub trait Beside: Serialize + DeserializeOwned {
@@ -118,14 +119,29 @@ pub fn known<T: Beside>(file: &Path, bytes: &[u8]) -> Result<Option<T>, Failure>
     }
     let (beside, file, writer) = (shown(&path(file)), shown(file), T::WRITER);
     Err(Failure::Failed(format!(
-        "{file}: changed since {writer} wrote it: its SHA-256 is {is}, and {beside} says {was}; write it again, or \
-         take {beside} away to go on with no names known"
+        "{file}: changed since {writer} wrote it, or the writing was cut off: its SHA-256 is {is}, and {beside} says \
+         {was}; write it again, or take {beside} away to go on with no names known"
     )))
+}
+
+/// Where what is known of a file stands: beside it, or where nothing does and it is a link beside the file that
+/// the link leads to.
+fn place(file: &Path) -> PathBuf {
+    let beside = path(file);
+    let link = fs::symlink_metadata(file).is_ok_and(|about| about.is_symlink());
+    match fs::canonicalize(file) {
+        Ok(target) if link && fs::symlink_metadata(&beside).is_err() => path(&target),
+        _ => beside,
+    }
 }
 
 /// What stands beside a file, of whatever bytes.
 pub fn read<T: Beside>(file: &Path) -> Result<Option<T>, Failure> {
-    let path = path(file);
+    let path = place(file);
+    if fs::metadata(&path).is_ok_and(|about| !about.is_file() && !about.is_dir()) {
+        // it might be waited for without end
+        return Err(wrong::<T>(file, "it is not an ordinary file"));
+    }
     let bytes = match files::read_some(&path, LONGEST + 1) {
         // a name as long as names can be has no room for the ending, so nothing stands there
         Err(error) if matches!(error.kind(), NotFound | InvalidFilename) => return Ok(None),

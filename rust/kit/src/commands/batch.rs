@@ -20,8 +20,8 @@ pub const COMMAND: Command = Command {
     name: "batch",
     help: HELP,
     spec: Spec {
-        values: &["--require", "--engine"],
-        flags: &["--tested", "--asked", "--once", "--list"],
+        values: &["--names", "--require", "--engine"],
+        flags: &["--tested", "--asked", "--named", "--once", "--list"],
     },
     run,
 };
@@ -31,7 +31,7 @@ fn run(options: &Options, console: &mut Console) -> Outcome {
     let required = Required::of(options)?;
     let asked = Engine::of(options)?;
     let (path, given) = given(options)?;
-    let source = source::table(path, None)?;
+    let source = source::table(path, options.value("--names").map(Path::new))?;
     let (reaching, engines) =
         accepted(asked, required, &source.table).map_err(|unjudged| match unjudged {
             Unjudged::Refused(refusal) => refusals::table_failure(path, &source, refusal),
@@ -183,15 +183,15 @@ fn status(run: &Run, required: Required) -> Outcome {
 }
 
 const HELP: &str = "\
-kit batch TABLE DIR|FILES.. [--require N] [--tested] [--asked] [--once] [--list]
-                            [--engine both|fast|plain]
+kit batch TABLE DIR|FILES.. [--names FILE.txt] [--require N] [--tested] [--asked] [--named]
+                            [--once] [--list] [--engine both|fast|plain]
 
 Judges many records by one table and reports how many held, are open or broken, are refused, or
 could not be read. Of a folder every file below it whose name ends in .svw is judged, by name; links
 to folders are not entered. A torn or unreadable file is counted and named, and the run goes on. So
 is one whose RECORD.json speaks of other signals than the table does, or of other bytes, and it is
-not judged. Every record that misses what --require, --tested and --asked ask is named, and of the
-others that are broken the first twenty. The report counts the records that did not test the
+not judged. Every record that misses what --require, --tested, --asked and --named ask is named, and
+of the others that are broken the first twenty. The report counts the records that did not test the
 assertion, those that never asked some |->, where |=>, #-# and #=# count too, and those of which
 nothing says that their signals are the table's, since the table or the record has no names; and it
 says what is asked at the first sample only, and how to ask it at every one.
@@ -201,10 +201,13 @@ longest to judge, reading not counted.
 
   TABLE             a .svt file, or a text whose name ends in .txt
   DIR|FILES..       folders of records, and records
+  --names FILE.txt  a text that declares the signals' names, for a .svt that has none beside it
   --require N       the level of every record must be N or higher: 0, 1, 2 or 3
   --tested          every record must test the assertion: some strong or weak in it must be reached
   --asked           every record must ask every |->, and every |=>, #-# and #=#: its right side must
                     be asked, from a sample at which it was reached
+  --named           the assertion and every record must be known to mean the same signals: both have
+                    names, and they agree
   --once            what is asked at the first sample only is meant so, and no word is said of it
   --engine WHICH    both, which is the default, fast, which is the quickest, or plain, as for kit
                     judge. Where the plain engine judges alone the report says so, and does not
@@ -249,7 +252,6 @@ mod tests {
         let run = Run {
             answers,
             slowest: None,
-            unnamed: 0,
         };
         let failure = status(&run, Required::default()).unwrap_err();
         assert_eq!(failure.status(), 5);

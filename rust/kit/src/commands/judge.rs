@@ -5,7 +5,7 @@ use crate::engine::{Engine, Engines};
 use crate::failure::{Failure, Outcome, BELOW, DONE, REFUSED};
 use crate::files;
 use crate::options::{Options, Spec};
-use crate::origin::{Origin, Read};
+use crate::origin::{Naming, Origin, Read};
 use crate::refusals;
 use crate::required::Required;
 use crate::source::{self, Source};
@@ -18,7 +18,7 @@ pub const COMMAND: Command = Command {
     help: HELP,
     spec: Spec {
         values: &["--names", "--require", "--engine"],
-        flags: &["--json", "--tested", "--asked", "--once"],
+        flags: &["--json", "--tested", "--asked", "--named", "--once"],
     },
     run,
 };
@@ -97,6 +97,7 @@ fn account(
     let account = verdict::account(&mut engines, &source.table, &origin.names, samples);
     let mut account = account.map_err(Stopped::by_table)?;
     account.times = origin.times().to_vec();
+    account.named = origin.naming == Naming::Agreed;
     match (account.past, account.judged().asked) {
         (Some(refusal), None) if required.asked => Err(Stopped::Refused(Refused::Table(refusal))),
         _ => Ok(account),
@@ -104,8 +105,8 @@ fn account(
 }
 
 const HELP: &str = "\
-kit judge TABLE RECORD [--names FILE.txt] [--require N] [--tested] [--asked] [--once]
-                       [--engine both|fast|plain] [--json]
+kit judge TABLE RECORD [--names FILE.txt] [--require N] [--tested] [--asked] [--named]
+                       [--once] [--engine both|fast|plain] [--json]
 
 Judges a record by an assertion, and says why.
 
@@ -150,6 +151,8 @@ no rows to read off which |-> were asked and which part was decisive, and neithe
   --tested          the record must test the assertion: some strong or weak in it must be reached
   --asked           the record must ask every |->: its right side must be asked, from a sample at
                     which the |-> was reached
+  --named           the assertion and the record must be known to mean the same signals: both have
+                    names, and they agree
   --once            what is asked at the first sample only is meant so, and no word is said of it
   --engine WHICH    both, which is the default; fast, which refuses tables with 13; or plain, which
                     cannot have --asked
@@ -183,8 +186,8 @@ The JSON object has every key always, null or empty where there is nothing to sa
                 under an odd number of nots, where the assertion's level is 3 minus this one; closed
                 is the sample at which it closed; matched is [first,last], the samples that a strong
                 or weak part matched; null where the plain engine judged alone
-  required      {\"level\":3,\"tested\":false,\"asked\":false,\"reached\":false}: what was required, and
-                whether all of it is reached
+  required      {\"level\":3,\"tested\":false,\"asked\":false,\"named\":false,\"reached\":false}: what was
+                required, and whether all of it is reached
   refused       null, or {\"file\":\"table\",\"number\":9,\"node\":3,\"reason\":\"..\"}
   table         {\"file\":\"flush.txt\",\"sha256\":\"..\"}: the table, or its text, as it was read
   record        the same of the record; sha256 is null of a file that is longer than any record
@@ -199,8 +202,8 @@ Example, which fails a script unless the flush was durable and the record shows 
 
   $ kit judge flush.svt run/0001.svw --require 2 --asked
 
-The status is 0 for a record that was judged, 1 where --require, --tested or --asked is not reached,
-2 for a wrong command line, 3 where the table or the record is refused (with 13 too, where --asked
-is given and only the plain engine judges the table), 4 where a file cannot be read or understood,
-and 5 where the engines differ.
+The status is 0 for a record that was judged, 1 where what --require, --tested, --asked and --named
+ask is not reached, 2 for a wrong command line, 3 where the table or the record is refused (with 13
+too, where --asked is given and only the plain engine judges the table), 4 where a file cannot be
+read or understood or the two do not mean the same signals, and 5 where the engines differ.
 ";

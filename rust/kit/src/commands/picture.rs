@@ -82,18 +82,16 @@ fn scene(
     Ok((scene, engines.engine() == Engine::Plain))
 }
 
+/// The bytes of a picture that is looked at, at most: 63 samples of 64 signals have far fewer.
+const LONGEST: u64 = 1 << 24;
+
 /// What the command writes: a picture is its own by its second line.
 const OUTPUT: Kind = Kind {
     command: "picture",
     what: "a picture",
     ending: ".svg",
     text: true,
-    own: |path| {
-        let beginning = output::standing(path, files::MOST);
-        let second = beginning.split(|byte| *byte == b'\n').nth(1);
-        let written = format!("<!-- {} -->", picture::WRITTEN);
-        second == Some(written.as_bytes())
-    },
+    own: |path| picture::is_signed(&output::standing(path, LONGEST)),
     beside: None,
 };
 

@@ -126,13 +126,14 @@ pub fn may_write(path: &Path, force: bool, kind: &Kind, inputs: &[&Path]) -> Res
     }
 }
 
-/// Asks that a file is none of the inputs, which are never written over.
+/// Asks that a file is none of the inputs, and stands beside none: these are never written over.
 fn untouched(path: &Path, inputs: &[&Path]) -> Result<(), Failure> {
-    let same = |input: &&Path| match (fs::canonicalize(input), fs::canonicalize(path)) {
+    let same = |input: &Path| match (fs::canonicalize(input), fs::canonicalize(path)) {
         (Ok(input), Ok(path)) => input == path,
         _ => false,
     };
-    match inputs.iter().any(same) {
+    let read = |input: &&Path| same(input) || same(&beside::path(input));
+    match inputs.iter().any(read) {
         true => {
             let words = format!("-o {} would write over an input", shown(path));
             Err(Failure::Usage(words))
@@ -171,9 +172,11 @@ pub fn own<T: Beside>(path: &Path) -> bool {
     beside::known::<T>(path, &bytes).is_ok_and(|known| known.is_some())
 }
 
-/// Whether the kit wrote what stands beside this path, of whatever bytes.
+/// Whether the kit wrote what stands beside this path, of whatever bytes: nothing more is in it.
 pub fn own_beside<T: Beside>(path: &Path) -> bool {
-    beside::read::<T>(path).is_ok_and(|known| known.is_some())
+    let known = beside::read::<T>(path).ok().flatten();
+    let bytes = known.and_then(|known| beside::bytes(path, &known).ok());
+    bytes.is_some_and(|bytes| standing(&beside::path(path), beside::LONGEST) == bytes)
 }
 
 /// A file, and before it the one that stands beside it: where the writing is cut off between the two, the

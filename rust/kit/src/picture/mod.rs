@@ -11,6 +11,7 @@ mod legend;
 mod levels;
 mod origin;
 mod scene;
+mod signed;
 mod span;
 mod style;
 mod svg;
@@ -22,6 +23,7 @@ mod waves;
 use description::{description, title};
 use layout::Layout;
 pub use scene::Scene;
+pub use signed::is_signed;
 use svg::Svg;
 
 /// The SVG of a scene. The same scene always gives the same bytes.
@@ -43,13 +45,10 @@ pub fn draw(scene: &Scene) -> String {
     closing::draw(&mut svg, scene, &layout);
     legend::draw(&mut svg, scene, &layout);
     origin::draw(&mut svg, scene, &layout);
-    svg.finish()
+    signed::sign(&svg.finish())
 }
 
-/// What stands in the second line of every picture, so that it is known as one.
-pub const WRITTEN: &str = "written by kit picture";
-
-/// Begins the picture: its size, who wrote it, its words for who hears it, its white ground and its patterns.
+/// Begins the picture: its size, its words for who hears it, its white ground and its patterns.
 fn begin(svg: &mut Svg, scene: &Scene, layout: &Layout) {
     let (width, height) = (layout.across.width, layout.down.height);
     svg.open(
@@ -63,7 +62,6 @@ fn begin(svg: &mut Svg, scene: &Scene, layout: &Layout) {
             ("aria-labelledby", &"kit-title kit-words"),
         ],
     );
-    svg.comment(WRITTEN);
     svg.holding("title", &[("id", &"kit-title")], &title(scene, layout));
     svg.holding("desc", &[("id", &"kit-words")], &description(scene, layout));
     style::patterns(svg);

@@ -27,11 +27,6 @@ impl Svg {
         }
     }
 
-    /// A comment, for programs that read the picture. It has no `--`.
-    pub fn comment(&mut self, text: &str) {
-        self.put(format_args!("<!-- {text} -->\n"));
-    }
-
     /// An element that holds nothing.
     pub fn leaf(&mut self, tag: &str, attributes: &[Attribute]) {
         self.begin(tag, attributes);

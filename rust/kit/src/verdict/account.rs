@@ -16,6 +16,8 @@ pub struct Account {
     pub verdict: Verdict,
     /// The time of each sample; empty where they are not known.
     pub times: Vec<String>,
+    /// Whether the assertion and the record are known to mean the same signals.
+    pub named: bool,
     /// The engines that judged.
     pub engine: Engine,
     /// The fast engine's refusal, where the plain one judged alone for that.
@@ -76,6 +78,7 @@ pub fn account(
     Ok(Account {
         verdict,
         times: Vec::new(),
+        named: false,
         engine: engines.engine(),
         past: engines.past(),
         assertion: phrase(&assertion, assertion.root(), names),
@@ -124,6 +127,7 @@ impl Account {
                 Some(explained) => Some(all(explained)),
                 None => self.signs.is_empty().then_some(true),
             },
+            named: self.named,
         }
     }
 }

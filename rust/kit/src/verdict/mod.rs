@@ -82,6 +82,8 @@ pub struct Judged {
     pub judgement: Judgement,
     /// Whether every `|->` was asked; none where the plain engine judged alone, which cannot tell.
     pub asked: Option<bool>,
+    /// Whether the assertion and the record are known to mean the same signals.
+    pub named: bool,
 }
 
 /// A refusal, and the file that it is of.

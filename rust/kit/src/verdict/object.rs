@@ -18,7 +18,7 @@
 //! | `levels` | the level after 0, 1, .. samples, up to all of them |
 //! | `closed` | the sample at which the level closed, or `null` where it is open |
 //! | `decisive` | the decisive part: its `node` in the table, the `part` in the notation, the sample that it was asked `from`, its own `level` there, whether it stands under an odd number of `not`s (`turned`), the sample at which it `closed` or `null`, and the first and last sample of the match of a strong or weak part that `matched`, or `null` |
-//! | `required` | what was asked for: the `level` or `null`, `tested` and `asked`, with whether all of it is `reached` |
+//! | `required` | what was asked for: the `level` or `null`, `tested`, `asked` and `named`, with whether all of it is `reached` |
 //! | `refused` | `null`, or of a refusal the `file` (`table` or `record`), the `number`, the `node` and the `reason` |
 //! | `table`, `record` | each file's name and `sha256`, which is `null` where the file is longer than any that is accepted |
 //! | `recorded` | what the file beside the record says but for the times, or `null` where there is none |
@@ -95,6 +95,7 @@ struct Wanted {
     level: Option<u8>,
     tested: bool,
     asked: bool,
+    named: bool,
     reached: bool,
 }
 
@@ -237,6 +238,7 @@ fn wanted(required: Required, reached: bool) -> Wanted {
         level: required.level,
         tested: required.tested,
         asked: required.asked,
+        named: required.named,
         reached,
     }
 }

@@ -93,7 +93,11 @@ impl Reaching {
             true => Some(true),
             false => engines.rows().map(|rows| self.asked(rows, samples.len())),
         };
-        Ok(Judged { judgement, asked })
+        Ok(Judged {
+            judgement,
+            asked,
+            named: false,
+        })
     }
 
     /// Whether a record asked every `|->`: whether its right side was reached.

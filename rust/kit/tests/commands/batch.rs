@@ -461,3 +461,16 @@ fn a_bar_is_drawn_for_a_person_only() {
     let (status, err) = kit_to(&words, &mut out, false);
     assert_eq!((status, err.as_str()), (0, ""));
 }
+
+#[test]
+fn a_folder_without_records_is_told_beside_others() {
+    let (empty, full) = (Folder::new(), Folder::new());
+    full.file("a.svw", example_bytes("flush.svw"));
+    let ran = batch(&[empty.as_os_str(), full.as_os_str()]);
+    assert_eq!((ran.status, count(&ran, "total")), (4, 1));
+    let told = format!(
+        "kit batch: {}: no file below ends in .svw; files passed over: 0\n",
+        empty.display()
+    );
+    assert_eq!(ran.err, told);
+}

@@ -110,7 +110,8 @@ fn asked_asks_for_every_implication() {
     assert_eq!(json.status, 1);
     let unasked = r#""left":"s0","reached":[0,1,2],"matched":[],"asked":false}],"once":false,"#;
     assert!(json.out.contains(unasked), "{}", json.out);
-    let required = r#""required":{"level":null,"tested":false,"asked":true,"reached":false}"#;
+    let required =
+        r#""required":{"level":null,"tested":false,"asked":true,"named":false,"reached":false}"#;
     assert!(json.out.contains(required), "{}", json.out);
     // an assertion without |-> leaves none unasked
     let [table, record] = ["p1.svt", "p1.svw"].map(example);

@@ -174,14 +174,16 @@ fn a_batch_names_what_does_not_fit_and_goes_on() {
         assert!(ran.out.lines().any(|known| known == line), "{line}: {}", ran.out);
     }
     let begins =
-        format!("mismatched  {changed}: changed since kit record wrote it: its SHA-256 is ");
+        format!("mismatched  {changed}: changed since kit record wrote it, or the writing was cut off: its SHA-256 is ");
     assert!(ran.out.contains(&begins), "{}", ran.out);
     let row: Vec<&str> = ran
         .out
         .lines()
         .filter(|line| line.starts_with("mismatched  "))
         .collect();
-    assert!(row[0].ends_with("2  the file beside them speaks of other signals, or of other bytes"));
+    assert!(row[0].ends_with(
+        "2  what stands beside them speaks of other signals, of other bytes, or cannot be read"
+    ));
     assert!(
         ran.err
             .contains("kit batch: 2 of 3 were not judged, since the file beside them"),
@@ -224,7 +226,7 @@ fn a_changed_record_is_noticed() {
     fs::write(&path, record(&[0, 1, 4, 0])).unwrap();
     let ran = bench.judge(&path);
     assert_eq!((ran.status, ran.out.as_str()), (4, ""));
-    let begins = format!("kit judge: {path}: changed since kit record wrote it: its SHA-256 is ");
+    let begins = format!("kit judge: {path}: changed since kit record wrote it, or the writing was cut off: its SHA-256 is ");
     let ends = format!(
         ", and {path}.json says {}; write it again, or take {path}.json away to go on with no names known\n",
         RECORD_SHA
@@ -353,7 +355,9 @@ fn a_table_has_names_too() {
     bytes[place] = 45;
     fs::write(&table, bytes).unwrap();
     let ran = kit(["show", &table]);
-    let told = format!("kit show: {table}: changed since kit table wrote it: ");
+    let told = format!(
+        "kit show: {table}: changed since kit table wrote it, or the writing was cut off: "
+    );
     assert!(ran.status == 4 && ran.err.starts_with(&told), "{}", ran.err);
 }
 
@@ -390,7 +394,7 @@ fn the_names_of_a_record_do_for_a_table_that_has_none() {
     );
     let ran = kit(["judge", &example("flush.svt"), &two]);
     let line = format!(
-        "\n  signal 2  s2 in {}, not there in {two}\n",
+        "\n  signal 2  without a name in {}, not there in {two}\n",
         example("flush.svt")
     );
     assert!(ran.status == 4 && ran.err.contains(&line), "{}", ran.err);
@@ -470,4 +474,115 @@ fn what_is_no_bit_of_the_waveform_is_told() {
                     signal 0  ack     top.ack\nsignal 1  drop    0 in every sample\n\
                     signal 2  strobe  1 in every sample\nsample 0  10 ns  0x4  strobe\n";
     assert_eq!(shown, expected);
+}
+
+/// A text that does not name all that is asked about says nothing of the rest, so it agrees with no record.
+#[test]
+fn a_text_that_leaves_signals_out_does_not_agree() {
+    let bench = Bench::new();
+    let (table, swapped) = (example("flush.svt"), bench.swapped());
+    for (declared, line) in [
+        ("signals ack=0\n", "  signal 1  without a name in "),
+        ("signals x=9\n", "  signal 0  without a name in "),
+        (
+            "signals ack=0 drop=3 strobe=4\n",
+            "  signal 1  without a name in ",
+        ),
+    ] {
+        let names = bench.folder.file("part.txt", declared);
+        let ran = kit(["judge", &table, &swapped, "--names", &names]);
+        assert_eq!((ran.status, ran.out.as_str()), (4, ""), "{declared}");
+        assert!(ran.err.contains(line), "{}", ran.err);
+        let ran = kit(["batch", &table, &swapped, "--names", &names]);
+        assert!(
+            ran.status == 4 && ran.out.contains("\nmismatched "),
+            "{}",
+            ran.out
+        );
+        // a record whose names are not known is judged as before
+        let bare = bench.folder.file("bare.svw", record(&[0, 1, 2]));
+        assert_eq!(kit(["judge", &table, &bare, "--names", &names]).status, 0);
+    }
+}
+
+/// What a script can ask for: that both sides have names, and that they agree.
+#[test]
+fn named_asks_for_names_that_agree() {
+    let bench = Bench::new();
+    let bare = bench.folder.file("bare.svw", record(&[0, 1, 4]));
+    let good = bench.good();
+    for (table, record, status) in [
+        (&bench.text, &good, 0),
+        (&bench.text, &bare, 1),
+        (&example("flush.svt"), &good, 1),
+    ] {
+        let ran = kit(["judge", table, record, "--require", "0", "--named"]);
+        let line = match status {
+            0 => "\nRequired named: reached.\n",
+            _ => "\nRequired named: not reached.\n",
+        };
+        assert!(
+            ran.status == status && ran.out.contains(line),
+            "{}",
+            ran.out
+        );
+        let json = kit(["judge", table, record, "--named", "--json"]).out;
+        let reached = format!(r#""named":true,"reached":{}}}"#, status == 0);
+        assert!(json.contains(&reached), "{json}");
+        let ran = kit(["batch", table, record, "--require", "0", "--named"]);
+        assert_eq!(ran.status, status, "{}", ran.out);
+        let missed = ran.out.contains(&format!("\nmissed  {record}: level "));
+        assert_eq!(missed, status == 1, "{}", ran.out);
+        assert!(
+            ran.out.contains("level 0 or more and names agreed\n"),
+            "{}",
+            ran.out
+        );
+    }
+}
+
+/// A link has no names of its own, so those of the file that it leads to count.
+#[test]
+fn a_link_does_not_lose_the_names() {
+    let bench = Bench::new();
+    let link = bench.folder.path("link.svw");
+    std::os::unix::fs::symlink(bench.swapped(), &link).unwrap();
+    let ran = bench.judge(&link);
+    assert!(
+        ran.status == 4 && ran.err.contains("do not mean the same signals"),
+        "{ran:?}"
+    );
+    // what would be waited for is not opened
+    let path = bench.folder.file("pipe.svw", record(&[0, 1]));
+    let made = std::process::Command::new("mkfifo")
+        .arg(format!("{path}.json"))
+        .status();
+    if made.is_ok_and(|status| status.success()) {
+        let ran = bench.judge(&path);
+        assert!(
+            ran.status == 4 && ran.err.contains("it is not an ordinary file"),
+            "{ran:?}"
+        );
+    }
+}
+
+/// A signal that the text declares and the record does not have is not drawn as if it were 0.
+#[test]
+fn a_picture_shows_what_was_recorded() {
+    let bench = Bench::new();
+    let text = bench
+        .folder
+        .file("more.txt", format!("signals later=9\n{}", &FLUSH[11..]));
+    let output = bench.folder.path("x.svg");
+    assert_eq!(
+        kit(["picture", &text, &bench.good(), "-o", &output]).status,
+        0
+    );
+    let svg = fs::read_to_string(&output).unwrap();
+    assert!(svg.contains(">strobe</text>") && !svg.contains(">later</text>"));
+    let bare = bench.folder.file("bare.svw", record(&[0, 1, 2]));
+    assert_eq!(kit(["picture", &text, &bare, "-o", &output]).status, 0);
+    assert!(fs::read_to_string(&output)
+        .unwrap()
+        .contains(">later</text>"));
 }

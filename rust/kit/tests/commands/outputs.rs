@@ -105,10 +105,8 @@ fn a_file_that_the_command_did_not_write_is_kept() {
         assert_eq!(fs::read(&output).unwrap(), own);
         let mut changed = own.clone();
         changed[1] ^= 1;
-        if command != "picture" {
-            fs::write(&output, &changed).unwrap();
-            assert_eq!(bench.run(command, &output, &[]).status, 4);
-        }
+        fs::write(&output, &changed).unwrap();
+        assert_eq!(bench.run(command, &output, &[]).status, 4);
     }
 }
 
@@ -306,4 +304,30 @@ fn paths_that_are_too_long_to_tell_are_refused() {
         .err
         .contains("x.svw.json: cannot be written: it would be longer than a mebibyte"));
     assert_eq!(left(&folder), [""; 0]);
+}
+
+/// What stands beside an input is an input too, and an edited file beside a record is not written over.
+#[test]
+fn what_stands_beside_an_input_is_never_written_over() {
+    let bench = Bench::new();
+    let record = bench.folder.path("r.svw");
+    assert_eq!(bench.run("record", &record, &[]).status, 0);
+    let beside = format!("{record}.json");
+    let before = fs::read(&beside).unwrap();
+    let ran = kit(["picture", &bench.text, &record, "-o", &beside, "--force"]);
+    let told = format!("kit picture: -o {beside} would write over an input\n");
+    assert!(ran.status == 2 && ran.err.starts_with(&told), "{}", ran.err);
+    assert_eq!(fs::read(&beside).unwrap(), before);
+    let noted = String::from_utf8(before)
+        .unwrap()
+        .replacen('{', "{ \"note\": \"mine\",", 1);
+    fs::write(&beside, &noted).unwrap();
+    let ran = bench.run("record", &record, &[]);
+    let begins = format!("kit record: {beside}: cannot be written: it is there already");
+    assert!(
+        ran.status == 4 && ran.err.starts_with(&begins),
+        "{}",
+        ran.err
+    );
+    assert_eq!(fs::read_to_string(&beside).unwrap(), noted);
 }

@@ -36,10 +36,11 @@ fn a_judged_record_as_json() {
         level: Some(3),
         tested: false,
         asked: true,
+        named: false,
     };
     let whole = "ack |-> strong(strobe ##1 strobe)";
     let expected = format!(
-        r#"{{"line":"level 1 tested yes","engine":"both","level":1,"name":"weak","meaning":"nothing broken, still waiting","tested":true,"implications":[{{"node":7,"part":"{whole}","left":"ack","reached":[0],"matched":[0],"asked":true}}],"once":true,"assertion":"{whole}","signals":[{{"number":0,"name":"ack"}},{{"number":1,"name":"strobe"}}],"names":"none","samples":1,"times":[],"levels":[2,1],"closed":null,"decisive":{{"node":6,"part":"strong(strobe ##1 strobe)","from":0,"level":1,"turned":false,"closed":null,"matched":null}},"required":{{"level":3,"tested":false,"asked":true,"reached":false}},"refused":null,{FILES}"#
+        r#"{{"line":"level 1 tested yes","engine":"both","level":1,"name":"weak","meaning":"nothing broken, still waiting","tested":true,"implications":[{{"node":7,"part":"{whole}","left":"ack","reached":[0],"matched":[0],"asked":true}}],"once":true,"assertion":"{whole}","signals":[{{"number":0,"name":"ack"}},{{"number":1,"name":"strobe"}}],"names":"none","samples":1,"times":[],"levels":[2,1],"closed":null,"decisive":{{"node":6,"part":"strong(strobe ##1 strobe)","from":0,"level":1,"turned":false,"closed":null,"matched":null}},"required":{{"level":3,"tested":false,"asked":true,"named":false,"reached":false}},"refused":null,{FILES}"#
     );
     let told = told(&ASKED, &[3]);
     assert_eq!(object(&told, required, &origin()).line(), expected);
@@ -57,7 +58,7 @@ fn a_closed_record_as_json() {
     for expected in [
         r#""tested":false,"implications":"#,
         r#""reached":[0],"matched":[],"asked":false}]"#,
-        r#""required":{"level":null,"tested":false,"asked":false,"reached":true}"#,
+        r#""required":{"level":null,"tested":false,"asked":false,"named":false,"reached":true}"#,
     ] {
         assert!(untested.contains(expected), "{untested}");
     }
@@ -72,7 +73,7 @@ fn a_refusal_as_json() {
     let files = [&origin.table, &origin.record];
     let written = refusal_object(refused, Engine::Fast, Required::default(), files).line();
     let expected = format!(
-        r#"{{"line":"refused 9 at 3","engine":"fast","level":null,"name":null,"meaning":null,"tested":null,"implications":[],"once":null,"assertion":null,"signals":[],"names":null,"samples":null,"times":[],"levels":[],"closed":null,"decisive":null,"required":{{"level":null,"tested":false,"asked":false,"reached":false}},"refused":{{"file":"table","number":9,"node":3,"reason":"strong, weak or |-> over a sequence that matches no k letters ⊤, k at least 1"}},{FILES}"#
+        r#"{{"line":"refused 9 at 3","engine":"fast","level":null,"name":null,"meaning":null,"tested":null,"implications":[],"once":null,"assertion":null,"signals":[],"names":null,"samples":null,"times":[],"levels":[],"closed":null,"decisive":null,"required":{{"level":null,"tested":false,"asked":false,"named":false,"reached":false}},"refused":{{"file":"table","number":9,"node":3,"reason":"strong, weak or |-> over a sequence that matches no k letters ⊤, k at least 1"}},{FILES}"#
     );
     assert_eq!(written, expected);
 }

@@ -69,6 +69,7 @@ fn a_waiting_record_in_words() {
         level: Some(2),
         tested: true,
         asked: true,
+        named: false,
     };
     let expected = format!(
         "level 1 tested yes\n\
