@@ -41,6 +41,16 @@ pub fn numbered(thing: &str, lines: &[(usize, String)]) -> String {
     lines.iter().map(line).collect()
 }
 
+/// From the first of some times to the last, `15 ns to 105 ns`, or the only one, `at 15 ns`; nothing where
+/// there is none.
+pub fn span<T>(times: &[T], show: impl Fn(&T) -> String) -> Option<String> {
+    match times {
+        [] => None,
+        [time] => Some(format!("at {}", show(time))),
+        [first, .., last] => Some(format!("{} to {}", show(first), show(last))),
+    }
+}
+
 /// Whether a character has no shape of its own: it moves the cursor or the direction of writing, or
 /// has no width.
 pub fn unseen(character: char) -> bool {

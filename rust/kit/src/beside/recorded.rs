@@ -85,11 +85,7 @@ impl Recorded {
 
     /// `15 ns to 105 ns`, or the time of the only sample; nothing where there is none.
     pub fn span(&self) -> Option<String> {
-        match self.times.as_slice() {
-            [] => None,
-            [time] => Some(format!("at {time}")),
-            [first, .., last] => Some(format!("{first} to {last}")),
-        }
+        words::span(&self.times, String::clone)
     }
 }
 

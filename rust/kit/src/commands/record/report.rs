@@ -54,12 +54,7 @@ pub fn windows_times(outputs: &[PathBuf], plan: &Plan, records: &[Taken]) -> Str
 
 /// From the first of some times to the last.
 fn span(plan: &Plan, times: &[u128]) -> String {
-    let show = |time: &u128| plan.scale.show(*time);
-    match times {
-        [] => String::new(),
-        [time] => format!("at {}", show(time)),
-        [first, .., last] => format!("{} to {}", show(first), show(last)),
-    }
+    words::span(times, |time| plan.scale.show(*time)).unwrap_or_default()
 }
 
 /// That the time of `--around` is before or after all samples, where it is.
