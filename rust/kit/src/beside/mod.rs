@@ -16,7 +16,10 @@ use crate::sha256;
 use crate::words;
 use serde::{de::DeserializeOwned, Deserialize, Serialize};
 use std::fs;
-use std::io::ErrorKind::{InvalidFilename, NotFound};
+use std::io::{
+    self,
+    ErrorKind::{InvalidFilename, NotFound},
+};
 use std::path::{Path, PathBuf};
 
 /// The bytes of such a file, at most: 63 samples and 64 signals have far fewer, but where the paths are
@@ -138,11 +141,7 @@ fn place(file: &Path) -> PathBuf {
 /// What stands beside a file, of whatever bytes.
 pub fn read<T: Beside>(file: &Path) -> Result<Option<T>, Failure> {
     let path = place(file);
-    if fs::metadata(&path).is_ok_and(|about| !about.is_file() && !about.is_dir()) {
-        // it might be waited for without end
-        return Err(wrong::<T>(file, "it is not an ordinary file"));
-    }
-    let bytes = match files::read_some(&path, LONGEST + 1) {
+    let bytes = match not_waited_for(&path).and_then(|()| files::read_some(&path, LONGEST + 1)) {
         // a name as long as names can be has no room for the ending, so nothing stands there
         Err(error) if matches!(error.kind(), NotFound | InvalidFilename) => return Ok(None),
         Err(error) => return Err(files::unreadable(&path, &error)),
@@ -157,6 +156,15 @@ pub fn read<T: Beside>(file: &Path) -> Result<Option<T>, Failure> {
         None => Ok(known),
     });
     read.map(Some).map_err(|why| wrong::<T>(file, &why))
+}
+
+/// Asks that a file can be read at once: nobody names this one, and a pipe would be waited for.
+fn not_waited_for(path: &Path) -> io::Result<()> {
+    let about = fs::metadata(path)?;
+    match about.is_file() || about.is_dir() {
+        true => Ok(()),
+        false => Err(io::Error::other("this is not an ordinary file")),
+    }
 }
 
 /// The failure where what stands beside a file is not what the command writes there.

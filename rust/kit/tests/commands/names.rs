@@ -552,18 +552,6 @@ fn a_link_does_not_lose_the_names() {
         ran.status == 4 && ran.err.contains("do not mean the same signals"),
         "{ran:?}"
     );
-    // what would be waited for is not opened
-    let path = bench.folder.file("pipe.svw", record(&[0, 1]));
-    let made = std::process::Command::new("mkfifo")
-        .arg(format!("{path}.json"))
-        .status();
-    if made.is_ok_and(|status| status.success()) {
-        let ran = bench.judge(&path);
-        assert!(
-            ran.status == 4 && ran.err.contains("it is not an ordinary file"),
-            "{ran:?}"
-        );
-    }
 }
 
 /// A signal that the text declares and the record does not have is not drawn as if it were 0.

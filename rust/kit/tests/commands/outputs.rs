@@ -331,3 +331,17 @@ fn what_stands_beside_an_input_is_never_written_over() {
     );
     assert_eq!(fs::read_to_string(&beside).unwrap(), noted);
 }
+
+/// A pipe beside a record, which nobody named, is not waited for.
+#[test]
+fn a_pipe_beside_a_record_is_told() {
+    let folder = Folder::new();
+    let path = folder.path("x.svw");
+    fs::copy(example("flush.svw"), &path).unwrap();
+    let beside = format!("{path}.json");
+    let made = std::process::Command::new("mkfifo").arg(&beside).status();
+    assert!(made.unwrap().success());
+    let ran = kit(["judge", &example("flush.svt"), &path]);
+    let told = format!("kit judge: {beside}: cannot be read: this is not an ordinary file\n");
+    assert_eq!((ran.status, ran.err), (4, told));
+}
