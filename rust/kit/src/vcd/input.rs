@@ -118,7 +118,7 @@ fn of_stream(
             None => Stored::in_memory(input, stored::MOST)?,
         }),
         Kind::Fst => match file {
-            Some((path, file)) => fst::open(path, Stored::File(file)),
+            Some((path, file)) => fst::open(path, file),
             None => Err(told(fst::NO_FILE)),
         },
         Kind::Other(what, advice) => Err(told(format!("this is {what}, and no waveform{advice}"))),

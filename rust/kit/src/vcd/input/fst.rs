@@ -5,11 +5,13 @@ mod piped;
 use super::stored::Stored;
 use super::{told, Source};
 use piped::Piped;
+use std::fs::{self, File, Metadata};
 use std::io::{self, Read};
-use std::path::Path;
+use std::path::{Path, PathBuf};
 use std::process::{Child, ChildStderr, Command, Stdio};
+use std::sync::Arc;
 use std::thread::{self, JoinHandle};
-use std::time::Duration;
+use std::time::{Duration, SystemTime};
 
 /// Why an FST that is no file cannot be read.
 pub const NO_FILE: &str =
@@ -23,7 +25,9 @@ const MESSAGE: u64 = 1 << 12;
 const SILENCE: Duration = Duration::from_secs(60);
 
 /// Starts the command on a file that has all its blocks.
-pub fn open(path: &Path, mut stored: Stored) -> io::Result<Box<dyn Source>> {
+pub fn open(path: &Path, file: Arc<File>) -> io::Result<Box<dyn Source>> {
+    let state = state(&file.metadata()?)?;
+    let mut stored = Stored::File(file);
     blocks::check(&mut stored)?;
     let mut command = Command::new("fst2vcd");
     command.arg("-f").arg(path).stdin(Stdio::null());
@@ -45,15 +49,27 @@ pub fn open(path: &Path, mut stored: Stored) -> io::Result<Box<dyn Source>> {
         .map(|messages| thread::spawn(|| first_words(messages)));
     Ok(Box::new(Fst {
         stored,
+        path: path.to_path_buf(),
+        state,
         child: Some(child),
         output,
         messages,
     }))
 }
 
+/// What tells a file from the one that it was: its length, and when it was written last.
+type State = (u64, SystemTime);
+
+fn state(about: &Metadata) -> io::Result<State> {
+    Ok((about.len(), about.modified()?))
+}
+
 /// An FST that the command reads.
 struct Fst {
     stored: Stored,
+    /// Its name, by which the command opens it.
+    path: PathBuf,
+    state: State,
     /// The command, until its end is seen.
     child: Option<Child>,
     output: Option<Piped>,
@@ -93,7 +109,13 @@ impl Read for Fst {
 
 impl Source for Fst {
     fn digest(self: Box<Self>) -> io::Result<String> {
-        self.stored.clone().digest()
+        let digest = self.stored.clone().digest()?;
+        match state(&fs::metadata(&self.path)?)? == self.state {
+            true => Ok(digest),
+            false => Err(told(
+                "this is an FST, and it was changed while it was read: record it when it is whole",
+            )),
+        }
     }
 }
 

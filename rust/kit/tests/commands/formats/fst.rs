@@ -103,6 +103,26 @@ fn fst2vcd_is_ended_where_the_rest_is_not_needed() {
 }
 
 #[test]
+fn a_file_that_is_changed_while_it_is_read_is_told() {
+    let folder = Folder::new();
+    let vcd = folder.file("small.vcd", SMALL);
+    let whole = std::fs::read(example("waves/drive-lost.fst")).unwrap();
+    let (wave, out) = (folder.file("w.fst", whole), folder.path("out.svw"));
+    let words = ["record", &wave, "--signals", "a=a,b=b", "-o", &out];
+    let settings = [("FAKE_VCD", vcd.as_str()), ("FAKE_MORE", "more")];
+    let said = run(&fake(), &words, &settings);
+    let expected = format!(
+        "kit record: {wave}: this is an FST, and it was changed while it was read: record it when it \
+         is whole\n"
+    );
+    assert_eq!(
+        (said.status.code(), text(&said.stderr)),
+        (Some(4), expected.as_str())
+    );
+    assert!(!Path::new(&out).exists());
+}
+
+#[test]
 fn without_fst2vcd_it_is_said_what_is_missing() {
     let folder = Folder::new();
     let wave = example("waves/drive-lost.fst");
