@@ -124,9 +124,14 @@ fn run(options: &Options, console: &mut Console) -> Outcome {
     }
     let waveform = &request.waveform;
     let mut opened = vcd::open(waveform)?;
-    let plan = request.plan(options, &opened.header)?;
-    let run = vcd::take(&plan, &mut Changes::of(&opened.header, &mut opened.tokens));
-    let run = run.map_err(|wrong| wrong.of(waveform))?;
+    let plan = match request.plan(options, &opened.header) {
+        Ok(plan) => plan,
+        Err(failure) => return Err(opened.blamed(failure)),
+    };
+    let run = match vcd::take(&plan, &mut Changes::of(&opened.header, &mut opened.tokens)) {
+        Ok(run) => run,
+        Err(wrong) => return Err(opened.blamed(wrong.of(waveform))),
+    };
     let identity = Identity {
         file: vcd::shown(Path::new(waveform.file_name().unwrap_or_default())),
         sha256: opened.digest()?,
@@ -162,6 +167,9 @@ fn say(
         _ => (String::new(), String::new()),
     };
     console.say(&said)?;
+    if let (Keep::Windows(_), Some(words)) = (plan.keep, outputs::older(outputs)) {
+        console.tell(&format!("kit record: warning: {words}\n"));
+    }
     if options.flag("--times") {
         console.say(&listed)?;
     }

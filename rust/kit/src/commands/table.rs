@@ -46,8 +46,8 @@ The operators, tightest first, what a signal does, and what makes a property of 
   R ##1 S   R ##0 S     R and then S; R and S that share one sample
   R ##3 S   R ##[1:4] S S begins three samples after R ends; one to four samples after
   not P                 P does not hold
-  nexttime P            P holds from the next sample on; at the end of the record it holds
-  s_nexttime P          the same, but at the end of the record it does not hold
+  nexttime P            P holds from the next sample on, or that is past the end, or no tick comes
+  s_nexttime P          P holds from the next sample on, and that is not past the end
   P and Q
   R or S   P or Q
   P until Q             P at each sample before one with Q, or at every sample

@@ -32,6 +32,11 @@ pub trait Source: Read {
     /// The SHA-256 of the bytes as they are stored, in lower-case hex. What was not read of them is
     /// read for it.
     fn digest(self: Box<Self>) -> io::Result<String>;
+
+    /// Asks, where the text inside has a fault, whether what it is stored in is damaged: then that is the fault.
+    fn sound(self: Box<Self>) -> io::Result<()> {
+        Ok(())
+    }
 }
 
 /// A waveform whose header is read; what follows the header stays to be read.
@@ -51,6 +56,20 @@ impl Opened {
         source
             .digest()
             .map_err(|error| unreadable(&self.path, &error))
+    }
+}
+
+impl Opened {
+    /// A failure with this waveform, or that what it is stored in is damaged, where it is.
+    pub fn blamed(self, failure: Failure) -> Failure {
+        blamed(&self.path, self.tokens, failure)
+    }
+}
+
+fn blamed(path: &Path, tokens: Tokens<BufReader<Box<dyn Source>>>, failure: Failure) -> Failure {
+    match tokens.into_input().into_inner().sound() {
+        Ok(()) => failure,
+        Err(error) => unreadable(path, &error),
     }
 }
 
@@ -82,7 +101,10 @@ pub fn open(path: &Path) -> Result<Opened, Failure> {
 fn read_header(path: &Path, source: Box<dyn Source>) -> Result<Opened, Failure> {
     let mut tokens = Tokens::of(BufReader::with_capacity(1 << 16, source));
     let header = tokens.skip_mark().and_then(|()| header::read(&mut tokens));
-    let header = header.map_err(|wrong| wrong.of(path))?;
+    let header = match header {
+        Ok(header) => header,
+        Err(wrong) => return Err(blamed(path, tokens, wrong.of(path))),
+    };
     let path = path.to_path_buf();
     Ok(Opened {
         header,

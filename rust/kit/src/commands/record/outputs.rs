@@ -1,8 +1,11 @@
 //! Where the records go.
 use crate::failure::Failure;
 use crate::files;
+use crate::output::ends_in;
 use crate::vcd::{Keep, Plan, Taken};
+use crate::words;
 use std::ffi::OsString;
+use std::fs;
 use std::path::{Path, PathBuf};
 
 /// The file of each record: the output itself, or for windows one for each, by the time of its first
@@ -37,4 +40,35 @@ fn stamped(output: &Path, stamp: &str) -> Result<PathBuf, Failure> {
         name.push(ending);
     }
     Ok(output.with_file_name(name))
+}
+
+/// That records of other windows stand beside these, which an earlier run left, where they do: a folder is judged
+/// with all of them.
+pub fn older(outputs: &[PathBuf]) -> Option<String> {
+    let first = outputs.first()?;
+    let begins = name(first).rsplit_once('-')?.0.to_string() + "-";
+    let folder = first.parent().filter(|folder| *folder != Path::new(""));
+    let folder = folder.unwrap_or(Path::new("."));
+    let entries = fs::read_dir(folder)
+        .ok()?
+        .flatten()
+        .map(|entry| entry.path());
+    let records = entries.filter(|path| ends_in(path, ".svw") && name(path).starts_with(&begins));
+    let new = |path: &PathBuf| outputs.iter().any(|output| name(output) == name(path));
+    let mut older: Vec<String> = records
+        .filter(|path| !new(path))
+        .map(|path| name(&path))
+        .collect();
+    older.sort();
+    let (one, more) = (older.first()?, older.len());
+    Some(format!(
+        "{} of the name {begins}*.svw stood there before and {}, such as {one}: kit batch of the folder judges them too",
+        words::count(more, "other record"),
+        if more == 1 { "stays" } else { "stay" },
+    ))
+}
+
+/// The name of a file, without its folders.
+fn name(path: &Path) -> String {
+    files::shown(Path::new(path.file_name().unwrap_or_default()))
 }

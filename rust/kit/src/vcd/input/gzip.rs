@@ -8,6 +8,9 @@ use std::io::{self, Cursor, Read};
 /// The bytes of a file that may go by without any text from them, at most.
 const SILENT: u64 = 1 << 24;
 
+/// The bytes of a text that are read to see whether it is whole, at most.
+const MOST: u64 = 1 << 30;
+
 /// Opens the VCD inside.
 pub fn open(input: Hashed<impl Read + 'static>) -> io::Result<Box<dyn Source>> {
     let mut rest = Unpacked(MultiGzDecoder::new(Packed {
@@ -46,6 +49,12 @@ impl<R: Read> Read for Gzip<R> {
 }
 
 impl<R: Read> Source for Gzip<R> {
+    /// The sum of a gzip file stands at its end, so a damaged one may give a text first.
+    fn sound(mut self: Box<Self>) -> io::Result<()> {
+        let mut rest = (&mut self.rest).take(MOST);
+        io::copy(&mut rest, &mut io::sink()).map(|_| ())
+    }
+
     fn digest(self: Box<Self>) -> io::Result<String> {
         self.rest.0.into_inner().input.finish()
     }

@@ -204,6 +204,32 @@ fn each_window_has_its_names_and_times() {
     }
 }
 
+/// What an earlier run left stays, and it is said.
+#[test]
+fn records_of_other_windows_that_stand_there_are_told() {
+    let folder = Folder::new();
+    let path = folder.file("w.vcd", format!("{HEAD}{}", rises(1..=6)));
+    let out = folder.path("w.svw");
+    let run = |count: &str| {
+        let words = [
+            "record",
+            path.as_str(),
+            "--windows",
+            "--count",
+            count,
+            "-o",
+            &out,
+        ];
+        kit([&words, &ON[..]].concat())
+    };
+    assert_eq!(run("3").err, "");
+    assert_eq!(run("3").err, "");
+    let said = run("4");
+    let told = "kit record: warning: 1 other record of the name w-*.svw stood there before and stays, such as \
+                w-40ns.svw: kit batch of the folder judges them too\n";
+    assert_eq!((said.status, said.err.as_str()), (0, told));
+}
+
 #[test]
 fn a_name_without_an_ending_keeps_none() {
     let folder = Folder::new();
