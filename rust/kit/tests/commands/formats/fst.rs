@@ -76,7 +76,7 @@ fn fst2vcd_is_ended_where_the_rest_is_not_needed() {
     let vcd = folder.file("small.vcd", SMALL);
     let wave = example("waves/drive-lost.fst");
     // the text never ends
-    let endless = format!("{vcd} /dev/zero");
+    let endless = format!("{vcd}\n/dev/zero");
     let number = folder.path("number");
     let settings = [("FAKE_VCD", endless.as_str()), ("FAKE_NUMBER", &number)];
     let gone = || {
