@@ -79,8 +79,24 @@ impl Sizes {
             let more = words::count(more, "more part");
             lines.push_str(&line("", &format!("and {more}")));
         }
-        lines + &line(&number(self.booleans), "booleans")
+        lines + &line(&number(self.booleans), "booleans") + &evenly(assertion)
     }
+}
+
+/// What to write for a long range, the first that there is: written out it has each of its numbers by itself.
+fn evenly(assertion: &Assertion) -> String {
+    let even = |node: &Node| {
+        let (m, n) = node.bounds();
+        match node.operator {
+            Operator::Times => notation::even_times(m, n),
+            Operator::Delay => notation::even_delay(m, n),
+            _ => None,
+        }
+    };
+    let first = assertion.nodes().iter().find_map(even);
+    first.map_or(String::new(), |(range, even)| {
+        format!("`{range}` grows with the square of its numbers; `{even}` says the same, and grows evenly.\n")
+    })
 }
 
 /// What the number of each part counts.
@@ -246,7 +262,18 @@ mod tests {
         let (words, lines) = told("strong(a[*0:8] ##1 b[->5])");
         assert_eq!(words, "written out it has 151 nodes, and 120 is the most");
         let expected = "        98  a[*0:8]\n        48  b[->5]\n         3  booleans\n";
-        assert_eq!(lines, format!("{COUNTED}{expected}"));
+        let even = "`R[*0:8]` grows with the square of its numbers; `(R[*0] or R)[*8]` says the same, and grows \
+                    evenly.\n";
+        assert_eq!(lines, format!("{COUNTED}{expected}{even}"));
+        // what is proposed fits
+        let even = "always (a |-> strong(1 ##1 (1[*0] or 1)[*14] ##1 b))";
+        let (_, lines) = told("always (a |-> strong(1 ##[1:15] b))");
+        assert!(
+            lines.contains("; `##1 (1[*0] or 1)[*14] ##1` says the same"),
+            "{lines}"
+        );
+        let read = notation::read(&format!("signals a b c\n{even}")).unwrap();
+        assert!(past(&read.assertion.table(), &read.names).is_none());
     }
 
     #[test]

@@ -17,6 +17,7 @@ mod writer;
 use crate::assertion::Assertion;
 use crate::names::Names;
 pub use comment::comment;
+pub use hints::spans::{even_delay, even_times};
 pub use mistake::Mistake;
 use parser::Parser;
 pub use sorts::called;

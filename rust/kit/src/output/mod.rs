@@ -63,14 +63,18 @@ impl Output {
         let force = options.flag(FORCE);
         let Kind { what, ending, .. } = kind;
         let name = shown(&path);
-        match () {
-            () if path.as_os_str() == "-" && kind.text => Ok(Output::Standard),
-            () if path.as_os_str() == "-" => Err(no_text(kind)),
-            () if !force && !ends_in(&path, ending) => Err(Failure::Usage(format!(
-                "-o {name}: the name of {what} ends in {ending}; {FORCE} writes it under any name"
-            ))),
-            () => Ok(Output::File { path, force }),
+        if path.as_os_str() == "-" {
+            return match kind.text {
+                true => Ok(Output::Standard),
+                false => Err(no_text(kind)),
+            };
         }
+        if !force && !ends_in(&path, ending) {
+            return Err(Failure::Usage(format!(
+                "-o {name}: the name of {what} ends in {ending}; {FORCE} writes it under any name"
+            )));
+        }
+        Ok(Output::File { path, force })
     }
 
     /// Asks that the file may be written, before any work is done for it.

@@ -100,7 +100,8 @@ fn an_expansion_says_how_many_nodes_its_text_makes() {
 fn what_passes_120_is_told_part_by_part() {
     let folder = Folder::new();
     let parts = "One of these parts is to be shortened. Each is told with its nodes at all its places, all that \
-                 stands in it included:\n        98  a[*0:8]\n        48  b[->5]\n         3  booleans\n";
+                 stands in it included:\n        98  a[*0:8]\n        48  b[->5]\n         3  booleans\n`R[*0:8]` grows with \
+                 the square of its numbers; `(R[*0] or R)[*8]` says the same, and grows evenly.\n";
     let words = "written out it has 151 nodes, and 120 is the most";
     let (table, said) = made(&folder, "strong(a[*0:8] ##1 b[->5])");
     assert_eq!(said.status, 0);

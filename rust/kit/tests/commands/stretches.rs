@@ -330,3 +330,31 @@ fn the_message_for_too_many_samples_says_what_can_be_done() {
                 --from T and --to T those between two, and --windows makes several records\n";
     told(&rises(1..=64), &[], 4, part);
 }
+
+/// A time that is not among the samples may be a slip in its unit.
+#[test]
+fn a_time_outside_of_all_samples_is_told() {
+    let five = rises(1..=5);
+    for (around, line) in [
+        ("1us", "no sample is at 1 us or later"),
+        ("51", "no sample is at 51 ns or later"),
+        ("9", "no sample is at 9 ns or before"),
+    ] {
+        let (said, _) = run(&five, &[&ON[..], &["--around", around]].concat());
+        assert_eq!((said.status, said.out.lines().nth(1)), (0, Some(line)));
+    }
+    for around in ["10", "33", "50"] {
+        let (said, _) = run(&five, &[&ON[..], &["--around", around]].concat());
+        assert!(!said.out.contains("no sample"), "{}", said.out);
+    }
+}
+
+/// What is read of the clock decides which samples there are, so it is counted too.
+#[test]
+fn unknown_values_of_the_clock_are_counted() {
+    let body = "#10 b1 n\n#20 xc\n#30 0c b10 n\n#40 zc\n#50 0c\n";
+    let (said, folder) = run(body, &[&ON[..], &["--x", "1"]].concat());
+    assert_eq!((said.status, samples(&folder)), (0, vec![1, 2]));
+    let line = "\n0 unknown values were read as 1, and so 2 values of the clock\n";
+    assert!(said.out.ends_with(line), "{}", said.out);
+}

@@ -63,14 +63,14 @@ fn outside(plan: &Plan, times: &[u128]) -> String {
         return String::new();
     };
     let shown = plan.scale.show(around);
-    match () {
-        () if times.iter().all(|time| *time < around) => {
-            format!("no sample is at {shown} or later\n")
-        }
-        () if times.iter().all(|time| *time > around) => {
-            format!("no sample is at {shown} or before\n")
-        }
-        () => String::new(),
+    let [all_before, all_after] = [
+        times.iter().all(|it| *it < around),
+        times.iter().all(|it| *it > around),
+    ];
+    match (all_before, all_after) {
+        (true, _) => format!("no sample is at {shown} or later\n"),
+        (_, true) => format!("no sample is at {shown} or before\n"),
+        _ => String::new(),
     }
 }
 

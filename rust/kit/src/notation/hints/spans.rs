@@ -54,6 +54,24 @@ pub fn later(m: u8, n: u8) -> String {
     }
 }
 
+/// A long range of repetitions, and the same as it grows evenly.
+pub fn even_times(m: u8, n: u8) -> Option<(String, String)> {
+    let long = m < n && n > SHORT;
+    long.then(|| (format!("R[*{m}:{n}]"), between("R", m, n)))
+}
+
+/// A long range of delays, and the same as it grows evenly.
+pub fn even_delay(m: u8, n: u8) -> Option<(String, String)> {
+    let long = 0 < m && m < n && n > SHORT;
+    let more = || times("(1[*0] or 1)", n.saturating_sub(m));
+    long.then(|| {
+        (
+            format!("##[{m}:{n}]"),
+            format!("{} {} ##1", apart(m), more()),
+        )
+    })
+}
+
 #[cfg(test)]
 mod tests {
     use super::*;

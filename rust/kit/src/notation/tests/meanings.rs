@@ -456,6 +456,25 @@ fn counts_mean_what_they_say() {
     assert!(compared > 200, "{compared}");
 }
 
+/// Long ranges, and what is proposed for them.
+#[test]
+fn even_ranges_mean_what_they_stand_for() {
+    let (mut judge, random) = (Judge::new(), &mut Random(13));
+    for (m, n) in [(0, 5), (1, 5), (2, 6), (5, 7), (6, 7)] {
+        let [times, delay] = [even_times(m, n), even_delay(m, n)];
+        let times = times.map(|pair| [pair.0, pair.1].map(|text| text.replace('R', "a")));
+        let delay = delay.map(|pair| [pair.0, pair.1].map(|text| format!("a {text} b")));
+        assert_eq!((times.is_some(), delay.is_some()), (true, m > 0));
+        for [range, even] in times.into_iter().chain(delay) {
+            for _ in 0..40 {
+                let samples = random.samples(12);
+                let [range, even] = [&range, &even].map(|text| ends(&mut judge, text, &samples));
+                assert_eq!(range, even, "{m} {n} {samples:?}");
+            }
+        }
+    }
+}
+
 #[test]
 fn rewritten_repetitions_of_a_boolean_mean_what_they_stand_for() {
     let (mut judge, random) = (Judge::new(), &mut Random(10));
