@@ -129,7 +129,7 @@ pub fn known<T: Beside>(file: &Path, bytes: &[u8]) -> Result<Option<T>, Failure>
 
 /// Where what is known of a file stands: beside it, or where nothing does and it is a link beside the file that
 /// the link leads to.
-fn place(file: &Path) -> PathBuf {
+pub fn place(file: &Path) -> PathBuf {
     let beside = path(file);
     let link = fs::symlink_metadata(file).is_ok_and(|about| about.is_symlink());
     match fs::canonicalize(file) {

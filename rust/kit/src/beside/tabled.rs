@@ -1,6 +1,7 @@
 //! What `kit table` writes beside a table.
 use super::{Beside, Identity};
 use crate::names::Names;
+use crate::origin;
 use serde::{Deserialize, Serialize};
 
 /// What is known of a table.
@@ -43,6 +44,13 @@ impl Beside for Tabled {
     fn named(&self) -> Vec<(u8, &str)> {
         let signals = self.signals.iter();
         signals.map(|it| (it.number, it.name.as_str())).collect()
+    }
+
+    fn misfit(&self, bytes: &[u8]) -> Option<&'static str> {
+        let names = self.names();
+        let mut asked = origin::asked(bytes).into_iter();
+        let unnamed = asked.any(|number| names.declared(number).is_none());
+        unnamed.then_some("it does not name every signal that the table asks about")
     }
 
     fn texts(&self) -> Vec<&str> {

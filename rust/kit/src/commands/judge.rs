@@ -2,7 +2,7 @@
 use super::Command;
 use crate::console::Console;
 use crate::engine::{Engine, Engines};
-use crate::failure::{Failure, Outcome, BELOW, DONE, REFUSED};
+use crate::failure::{Outcome, BELOW, DONE, REFUSED};
 use crate::files;
 use crate::options::{Options, Spec};
 use crate::origin::{Naming, Origin, Read};
@@ -29,20 +29,17 @@ fn run(options: &Options, console: &mut Console) -> Outcome {
     let engine = Engine::of(options)?;
     let source = source::table(table, options.value("--names").map(Path::new))?;
     let bytes = files::read(record)?;
-    let ready = verdict::ready(engine, &source.table, &bytes);
-    let judged = ready.map(|(engines, samples)| -> Result<_, Failure> {
-        let origin = Origin::of((table, &source), (record, &bytes))?;
-        let account = account(engines, required, &source, &origin, &samples);
-        Ok(account.map(|account| (account, origin)))
-    });
-    let refused = match judged {
-        Ok(judged) => match judged? {
-            Ok((account, origin)) => return judged_record(&account, &origin, options, console),
-            Err(stopped) => stopped,
-        },
+    let stopped = match verdict::ready(engine, &source.table, &bytes) {
+        Ok((engines, samples)) => {
+            let origin = Origin::of((table, &source), (record, &bytes))?;
+            match account(engines, required, &source, &origin, &samples) {
+                Ok(account) => return judged(&account, &origin, options, console),
+                Err(stopped) => stopped,
+            }
+        }
         Err(stopped) => stopped,
     };
-    let refused = match refused {
+    let refused = match stopped {
         Stopped::Differ(difference) => return Err(difference.failure(&[table, record])),
         Stopped::Refused(refused) => refused,
     };
@@ -61,12 +58,7 @@ fn run(options: &Options, console: &mut Console) -> Outcome {
 }
 
 /// Says the verdict on a record that was judged.
-fn judged_record(
-    account: &Account,
-    origin: &Origin,
-    options: &Options,
-    console: &mut Console,
-) -> Outcome {
+fn judged(account: &Account, origin: &Origin, options: &Options, console: &mut Console) -> Outcome {
     let required = Required::of(options)?;
     console.say(&match options.flag("--json") {
         true => verdict::object(account, required, origin).line(),

@@ -125,7 +125,7 @@ pub fn may_write(path: &Path, force: bool, kind: &Kind, inputs: &[&Path]) -> Res
     };
     may(path, &|| (kind.own)(path))?;
     match kind.beside {
-        Some(own) => may(&beside::path(path), &|| own(path)),
+        Some(own) => may(&beside::place(path), &|| own(path)),
         None => Ok(()),
     }
 }
@@ -180,7 +180,7 @@ pub fn own<T: Beside>(path: &Path) -> bool {
 pub fn own_beside<T: Beside>(path: &Path) -> bool {
     let known = beside::read::<T>(path).ok().flatten();
     let bytes = known.and_then(|known| beside::bytes(path, &known).ok());
-    bytes.is_some_and(|bytes| standing(&beside::path(path), beside::LONGEST) == bytes)
+    bytes.is_some_and(|bytes| standing(&beside::place(path), beside::LONGEST) == bytes)
 }
 
 /// A file, and before it the one that stands beside it: where the writing is cut off between the two, the
@@ -191,7 +191,7 @@ pub fn with_beside<T: Beside>(
     known: &T,
 ) -> Result<[(PathBuf, Vec<u8>); 2], Failure> {
     Ok([
-        (beside::path(path), beside::bytes(path, known)?),
+        (beside::place(path), beside::bytes(path, known)?),
         (path.to_path_buf(), bytes),
     ])
 }

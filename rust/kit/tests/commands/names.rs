@@ -342,6 +342,14 @@ fn a_table_has_names_too() {
         "{}",
         ran.out
     );
+    // what names no signal speaks for none
+    let empty =
+        beside.split("  \"signals\"").next().unwrap().to_string() + "  \"signals\": []\n}\n";
+    fs::write(format!("{table}.json"), &empty).unwrap();
+    let ran = kit(["judge", &table, &bench.swapped()]);
+    let told = "it does not name every signal that the table asks about";
+    assert!(ran.status == 4 && ran.err.contains(told), "{}", ran.err);
+    fs::write(format!("{table}.json"), &beside).unwrap();
     // another text's names, that are not the table's
     let other = bench
         .folder

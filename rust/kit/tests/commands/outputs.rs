@@ -217,8 +217,16 @@ fn a_link_stays_and_so_do_permissions() {
         fs::set_permissions(&output, fs::Permissions::from_mode(0o640)).unwrap();
         let link = bench.folder.path(&format!("link{ending}"));
         symlink(&output, &link).unwrap();
-        assert_eq!(bench.run(command, &link, &["--force"]).status, 0);
+        assert_eq!(bench.run(command, &link, &[]).status, 0);
         assert!(fs::symlink_metadata(&link).unwrap().is_symlink());
+        // what is known of it stands beside the file, and not beside the link
+        assert!(!bench.folder.join(format!("link{ending}.json")).exists());
+        if command != "picture" {
+            assert_eq!(
+                [&output, &link].map(|path| kit(["show", path]).status),
+                [0, 0]
+            );
+        }
         let mode = fs::metadata(&output).unwrap().permissions().mode();
         assert_eq!(mode & 0o777, 0o640);
     }

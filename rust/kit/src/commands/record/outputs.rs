@@ -4,6 +4,7 @@ use crate::files;
 use crate::output::ends_in;
 use crate::vcd::{Keep, Plan, Taken};
 use crate::words;
+use std::collections::{BTreeSet, HashSet};
 use std::ffi::OsString;
 use std::fs;
 use std::path::{Path, PathBuf};
@@ -54,13 +55,10 @@ pub fn older(outputs: &[PathBuf]) -> Option<String> {
         .flatten()
         .map(|entry| entry.path());
     let records = entries.filter(|path| ends_in(path, ".svw") && name(path).starts_with(&begins));
-    let new = |path: &PathBuf| outputs.iter().any(|output| name(output) == name(path));
-    let mut older: Vec<String> = records
-        .filter(|path| !new(path))
-        .map(|path| name(&path))
-        .collect();
-    older.sort();
-    let (one, more) = (older.first()?, older.len());
+    let new: HashSet<String> = outputs.iter().map(|output| name(output)).collect();
+    let older: BTreeSet<String> = records.map(|path| name(&path)).collect();
+    let mut older = older.into_iter().filter(|name| !new.contains(name));
+    let (one, more) = (older.next()?, older.count() + 1);
     Some(format!(
         "{} of the name {begins}*.svw stood there before and {}, such as {one}: kit batch of the folder judges them too",
         words::count(more, "other record"),
