@@ -1,3 +1,2 @@
--- How a signal's word is gathered, and what it says of the sample before.
-mod Gathering
+-- What a signal's word says of the sample before.
 mod Changes

@@ -14,12 +14,13 @@ fn signal_set(samples: &[u64], s: usize) -> PositionSet
     requires { (length samples.now ≤ longest) × (s < 64) }
     ensures { Is result.bits (signal_bit samples.now s) }
 {
+    let n = samples.len();
     let mut out = PositionSet::empty();
-    let mut k = samples.len();
-    while 0 < k {
-        k -= 1;
+    let mut k: usize = 0;
+    while k < n {
         let sample = PositionSet { bits: samples[k] };
-        out = out.up().with_if(0, sample.has(s));
+        out = out.with_if(k, sample.has(s));
+        k += 1;
     }
     out
 }

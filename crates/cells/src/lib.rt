@@ -3,7 +3,6 @@ ghost use Rattle.std.specs.Prelude.{◌≡◌, ◌+◌, ◌≤◌, ◌<◌, ltb,
 ghost use Rattle.positions.specs.Member.{has, Is};
 ghost use Rattle.cells.specs.Shares.{share, longest, word_in, HasRow};
 ghost use Rattle.cells.specs.Bits.{longer, last_letter, starts, starts_into};
-ghost use Rattle.cells.specs.Letters.{Places};
 ghost use Rattle.cells.specs.Stored.{None, Stored};
 
 use positions::PositionSet;
@@ -87,19 +86,5 @@ pub fn clear(ws: &mut [u64], at: usize, from: usize, to: usize)
     while m < to {
         ws[at + m] = 0;
         m += 1;
-    }
-}
-
-// The places 0 to n one by one, a word each.
-pub fn put_places(places: &mut [u64], n: usize)
-    requires { (n ≤ longest) × (n < length places.old) }
-    ensures { Places places.new n }
-{
-    let mut place = PositionSet::one(0);
-    let mut i: usize = 0;
-    while i <= n {
-        places[i] = place.bits;
-        place = place.up();
-        i += 1;
     }
 }

@@ -180,27 +180,18 @@ module _ (s : List ℕ) (ok : Built s) where
       handed_more = record { size = simp length-set i.size; down = more_down; rest = more_rest }
 
   -- as the code has it: node p - 1 has the bytes v and the row r
-  module _ (p : ℕ) (o : 0 < p) (h : p ≤ count s) (clocks : List ℕ) (i : Handed s p clocks) (v : Raw) (ev : v ≡ raw_at s (p - 1)) (r : Row) (er : r ≡ row_of v.op)
-      (c : ℕ) (ec : c ≡ cond (eqb r.block 0) v.x (get_or clocks (p - 1) 0)) (x : ℕ) (ex : x ≡ part_of r.x v.x) (y : ℕ) (ey : y ≡ part_of r.y v.y) where
-    before : Handed s (suc (p - 1)) clocks
-    before = let e : p ≡ suc (p - 1) = omega arith in subst (λ (q : ℕ). Handed s q clocks) e i
-
-    given : c ≡ cond (is_clock s (p - 1)) (raw_at s (p - 1)).x (get_or clocks (p - 1) 0)
-    unfolding is_clock
-    given = ec ∙ rw (er, ev)
-
-    pub handed_again : Handed s (p - 1) (set (set clocks x c) y c)
-    unfolding after xs ys own
-    handed_again = rw (ex, ey, er, ev) (handed_more (p - 1) (omega arith) clocks before c given)
-
-    -- the clocks from that node on stay
-    pub handed_kept : (j : ℕ) → p - 1 ≤ j → clock_by (set (set clocks x c) y c) j ≡ clock_by clocks j
-    unfolding after xs ys own clock_by
-    handed_kept j l = rw (ex, ey, er, ev) (go (ltb j 120) refl)
-      where
-        go : (b : Bool) → ltb j 120 ≡ b → cond b (ref_of (get_or (after (p - 1) (omega arith) clocks before c given) j 0)) free_r ≡ cond b (ref_of (get_or clocks j 0)) free_r
-        go true e = ap ref_of (as_before (p - 1) (omega arith) clocks before c given j (ltb-true j 120 e) (λ a. let g = part_below s j (w (p - 1) (omega arith) clocks before) a in omega arith))
-        go false e = refl
+  pub handed_again : (p : ℕ) → 0 < p → p ≤ count s → (clocks : List ℕ) → Handed s p clocks → (v : Raw) → v ≡ raw_at s (p - 1) → (r : Row) → r ≡ row_of v.op
+      → (c : ℕ) → c ≡ cond (eqb r.block 0) v.x (get_or clocks (p - 1) 0) → (x : ℕ) → x ≡ part_of r.x v.x → (y : ℕ) → y ≡ part_of r.y v.y
+      → Handed s (p - 1) (set (set clocks x c) y c)
+  unfolding after xs ys own is_clock
+  handed_again p o h clocks i v ev r er c ec x ex y ey =
+      let q = p - 1 in
+      let e : p ≡ suc q = omega arith in
+      let j : Handed s (suc q) clocks = rw e at i in
+      let f = ok.few in
+      let l = i.size in
+      let d : c ≡ cond (is_clock s q) (raw_at s q).x (get_or clocks q 0) = ec ∙ rw (er, ev) in
+      rw (ex, ey, er, ev) (handed_more q (omega arith) clocks j c d)
 
   -- ---- after the last node
 

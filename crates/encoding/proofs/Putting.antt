@@ -94,6 +94,3 @@ module _ (d out : List ℕ) (at : ℕ) (us : List Raw) (e : out ≡ put d (4 * a
       let l = length-encoded us in
       let place : 4 * (at + length us) + 6 ≡ 4 * at + 6 + length (encoded us) = omega arith in
       rw (place, e) (put-put d (4 * at + 6) (encoded us) xs (omega arith))
-
-  pub put-nodes : (vs : List Raw) → put out (4 * (at + length us) + 6) (encoded vs) ≡ put d (4 * at + 6) (encoded (us ++ vs))
-  put-nodes vs = put_more (encoded vs) ∙ ap (put d (4 * at + 6)) (sym (encoded-append us vs))

@@ -13,22 +13,19 @@ use Rattle.nodes.specs.Computed.{named_by}
 use Rattle.nodes.proofs.Fits.{Lower, lower}
 use Rattle.encoding.specs.Moved.{moved}
 
--- an operand by its new number w, and any other byte as it is
-pub moved_as : (ν : ℕ → ℕ) (sort v w : ℕ) → (¬ (sort ≡ none) → w ≡ ν v) → cond (eqb sort none) v w ≡ moved ν sort v
-unfolding moved
-moved_as ν sort v w h = go (eqb sort none) refl
-  where
-    go : (t : Bool) → eqb sort none ≡ t → cond t v w ≡ cond t v (ν v)
-    go true e = refl
-    go false e = h (eqb-false sort none e)
-
 module _ (ν : ℕ → ℕ) (numbers : List ℕ) (k : ℕ) (few : k ≤ 120) (right : (v : ℕ) → v < k → get_or numbers v 0 ≡ ν v) where
   pub looked_up : (v : ℕ) → v < k → get_or numbers (named_by v) 0 ≡ ν v
   unfolding named_by
   looked_up v l = rw (lt-ltb v 120 (omega arith)) (right v l)
 
+  -- an operand by its new number, and any other byte as it is
   pub looked_moved : (sort v : ℕ) → (¬ (sort ≡ none) → v < k) → cond (eqb sort none) v (get_or numbers (named_by v) 0) ≡ moved ν sort v
-  looked_moved sort v l = moved_as ν sort v _ (λ z. looked_up v (l z))
+  unfolding moved
+  looked_moved sort v l = go (eqb sort none) refl
+    where
+      go : (t : Bool) → eqb sort none ≡ t → cond t v (get_or numbers (named_by v) 0) ≡ cond t v (ν v)
+      go true e = refl
+      go false e = looked_up v (l (eqb-false sort none e))
 
 -- a right operand is right with its new number, where that is a lower node of the sort
 module _ (ν : ℕ → ℕ) (s t : List ℕ) (k q : ℕ) where

@@ -1,7 +1,7 @@
 -- The booleans, the root's form and the heading make the expanded table. Assumes nothing.
 use native.Mathlib.Omega.{arith}
-use mathlib.Core.Path.{◌≡◌, ◌∙◌, sym, ap}
-use mathlib.Core.List.{List}
+use mathlib.Core.Path.{◌≡◌, refl, ◌∙◌, sym, ap}
+use mathlib.Core.List.{List, ◌++◌}
 use Prim.Native.Nat.{ℕ, ◌+◌, ◌*◌, ◌-◌, ◌<◌, ◌≤◌}
 use lib.ListN.{length}
 use Rattle.refusal.specs.Heading.{count}
@@ -12,40 +12,41 @@ use Rattle.encoding.proofs.Putting.{put_more, put_before, encoded-append}
 use Rattle.expansion.specs.Forms.{Form, size, written}
 use Rattle.expansion.specs.Booleans.{number_of, booleans_below}
 use Rattle.expansion.specs.Nodes.{form_of}
-use Rattle.expansion.specs.Formed.{Formed}
+use Rattle.expansion.specs.Formed.{Formed, NumberedBelow}
 use Rattle.expansion.specs.Expansion.{base_count, base_nodes, base_table}
 use Rattle.expansion.proofs.Numbering.{number_le, length-booleans}
 use Rattle.firsts.specs.Firsts.{FirstsPut}
-use Rattle.pieces.specs.Puts.{Wrote, Puts}
-use Rattle.unfold.specs.Ready.{Ready, Heavy}
+use Rattle.pieces.specs.declared.Piece.TheVariants.{NodeOf}
+use Rattle.pieces.specs.Pieces.{piece_form, Fits}
+use Rattle.nodestep.specs.Ready.{Ready}
+use Rattle.unfold.specs.Puts.{Puts}
+use Rattle.unfold.proofs.Writing.{roomy}
 use Rattle.expand.specs.Opens.{Unfolds}
 
 module _ (s : List ℕ) (n : ℕ) (formed : Formed s n) (en : n ≡ count s) (some : 1 ≤ n) where
   root_is : n - 1 ≡ root s
   root_is = ap (λ (i : ℕ). i - 1) en
 
-  pub root_heavy : sequence ≤ sort_at s (root s) → Heavy s n (n - 1)
-  root_heavy h = record { below = omega arith; sort = rw root_is h }
+  pub root_fits : sequence ≤ sort_at s (root s) → Fits s n (NodeOf (n - 1))
+  unfolding Fits
+  root_fits h = (omega arith, rw root_is h)
 
   module _ (d : List ℕ) (room : 486 ≤ length d) (first : ℕ) (numbers d₁ : List ℕ) (h : FirstsPut s n d first numbers d₁) where
     pub ready : Ready s n numbers
     ready = record { formed = formed; numbered = h.numbered }
 
-    pub first_few : first ≤ 121
+    pub first_few : first ≤ 120
     first_few = let e = h.count in let l = number_le s n in let f = formed.few in omega arith
 
-    -- all booleans come before
-    pub first_is : number_of s n ≤ first
-    first_is = let e = h.count in omega arith
-
-    module _ (m : ℕ) (d₂ : List ℕ) (p : Puts d₁ first (form_of s (n - 1)) m d₂) where
+    module _ (m : ℕ) (d₂ : List ℕ) (p : Puts d₁ first 0 (NodeOf (n - 1)) (piece_form (form_of s) (NodeOf (n - 1))) m d₂) where
       abbrev f : Form
       f = form_of s (root s)
 
-      form_is : form_of s (n - 1) ≡ f
+      form_is : piece_form (form_of s) (NodeOf (n - 1)) ≡ f
+      unfolding piece_form
       form_is = ap (form_of s) root_is
 
-      counted : first + size (form_of s (n - 1)) ≡ base_count s
+      counted : first + size (piece_form (form_of s) (NodeOf (n - 1))) + 0 ≡ base_count s
       counted = let e : first ≡ number_of s (count s) = h.count ∙ ap (number_of s) en in let z = ap size form_is in omega arith
 
       -- more than 120
@@ -53,16 +54,16 @@ module _ (s : List ℕ) (n : ℕ) (formed : Formed s n) (en : n ≡ count s) (so
       unfolds_over l = record {
         count = λ g. absurd (none g);
         bytes = λ g. absurd (none g);
-        over = λ g. let a = p.low in omega arith;
+        over = λ g. p.over (let c = counted in omega arith);
       }
         where
           none : base_count s ≤ 120 → ⊥
-          none g = let c = counted in let e = p.over l in omega arith
+          none g = let c = counted in let e = p.next (omega arith) in omega arith
 
       -- the booleans and the form
       module _ (l : m ≤ 120) where
-        wrote : Wrote d₁ first (form_of s (n - 1)) m d₂
-        wrote = p.there l
+        fits : first + size (piece_form (form_of s) (NodeOf (n - 1))) + 0 ≤ 120
+        fits = roomy p l
 
         nodes : d₂ ≡ put_nodes d 0 (base_nodes s)
         nodes =
@@ -72,8 +73,8 @@ module _ (s : List ℕ) (n : ℕ) (formed : Formed s n) (en : n ≡ count s) (so
             let long : length us ≡ number_of s (count s) = length-booleans s (count s) in
             let a : d₁ ≡ put d (4 * 0 + 6) (encoded us) = h.bytes ∙ ap (λ (i : ℕ). put_nodes d 0 (booleans_below s i)) en in
             let place : 4 * first + 6 ≡ 4 * (0 + length us) + 6 = omega arith in
-            let b = wrote.next in
-            wrote.bytes ∙ ap (λ (g : Form). put_nodes d₁ first (written first g)) form_is
+            let b = fits in
+            p.bytes b ∙ ap (λ (g : Form). put_nodes d₁ first (written first g)) form_is
             ∙ ap (λ (i : ℕ). put_nodes d₁ first (written i f)) e
             ∙ ap (λ (i : ℕ). put d₁ i (encoded (written (number_of s (count s)) f))) place
             ∙ put_more d d₁ 0 us a (omega arith) (encoded (written (number_of s (count s)) f))
@@ -83,11 +84,11 @@ module _ (s : List ℕ) (n : ℕ) (formed : Formed s n) (en : n ≡ count s) (so
         unfolding base_table
         unfolds d₃ e₃ =
             let c = counted in
-            let e : m ≡ base_count s = wrote.next ∙ counted in
+            let e : m ≡ base_count s = p.next fits ∙ (let z = counted in omega arith) in
             record {
               count = λ _. e;
               bytes = λ _.
                   e₃ ∙ ap (λ (i : ℕ). put d₂ 0 (heading 2 0 i)) e ∙ ap (λ (u : List ℕ). put u 0 (heading 2 0 (base_count s))) nodes
                   ∙ put_before d (heading 2 0 (base_count s)) (encoded (base_nodes s)) (omega arith);
-              over = λ g. absurd (let z : ⊥ = omega arith in z);
+              over = λ g. absurd (let b = fits in let z : ⊥ = omega arith in z);
             }

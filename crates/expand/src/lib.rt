@@ -13,9 +13,10 @@ use encoding::put_heading;
 use firsts::put_booleans;
 use nodes::operators::{NEWEST, NONE};
 use nodes::sort_at;
+use pieces::Piece;
 use refusal::{Verdict, version_of, wide};
 use table::check_to;
-use unfold::put_whole;
+use unfold::put_piece;
 
 // What expanding answers: the verdict, and the count of the expansion's nodes.
 #[repr(C)]
@@ -52,7 +53,7 @@ fn unfold(b: &[u8], n: usize, out: &mut [u8]) -> usize
 {
     let mut numbers = [0; 121];
     let first = put_booleans(b, n, &mut numbers, out);
-    let m = put_whole(b, n, &numbers, out, n - 1, first);
+    let m = put_piece(b, n, &numbers, out, Piece::NodeOf(n - 1), first, 0);
     if m <= 120 {
         put_heading(out, 2, 0, m);
     }

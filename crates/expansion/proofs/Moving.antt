@@ -45,7 +45,7 @@ module _ (s : List ℕ) where
   operands_given k w g = (subst (AllOperands k) g (given_operands k w (gives (node_at s k)) refl)).0
 
   -- a boolean node gives itself
-  pub boolean_given : (k : ℕ) → WellFormed s k → sort_at s k ≡ boolean → (o : BooleanOp) × (given (node_at s k) ≡ o ∷ [])
+  boolean_given : (k : ℕ) → WellFormed s k → sort_at s k ≡ boolean → (o : BooleanOp) × (given (node_at s k) ≡ o ∷ [])
   unfolding given
   boolean_given k w e = go (node_at s k) (sym (sort_is s k w) ∙ e)
     where

@@ -1,3 +1,2 @@
--- Laws that the proofs of this crate and of the crates above cite.
-pub mod Strays
-pub mod Serving
+-- Laws that the proofs of this crate cite.
+pub mod Counting

@@ -1,20 +1,16 @@
 -- When a node is not well formed, and when it stands in other than one operand place, as tests that antt computes: what the code of refusals 6
 -- and 7 is held to. `table/proofs/` has that they tell what the page says: `fits_tells`, `astray_tells`. Assumes nothing.
-use Rattle.std.specs.Prelude.{Bool, not, cond, ◌&&◌, ◌||◌, List, ℕ, ◌+◌, ◌/◌, ◌%◌, ltb, leb, eqb, get_or}
+use Rattle.std.specs.Prelude.{◌≡◌, Bool, not, cond, ◌&&◌, ◌||◌, List, ℕ, ◌+◌, ◌/◌, ◌%◌, ◌<◌, ltb, leb, eqb, get_or}
 use Rattle.refusal.specs.Heading.{version}
 use Rattle.nodes.specs.declared.operators.Row.{Row}
-use Rattle.nodes.specs.declared.Raw.{Raw}
 use Rattle.nodes.specs.Operators.{none, sequence, zero_byte, range_byte, count_byte}
 use Rattle.nodes.specs.Nodes.{raw_at, row_at, sort_at, uses_of}
+use Rattle.nodes.specs.Computed.{named_by}
 
 -- ---- 6
 
 unfoldable pub operand_fits : List ℕ → ℕ → ℕ → ℕ → ℕ → Bool
 operand_fits s k sort limit v = cond (eqb sort none) (ltb v limit) (ltb v k && eqb (sort_at s v) sort)
-
--- the same, where the lower node that v names has the sort `found`, none where v names no lower node
-unfoldable pub serves : ℕ → ℕ → ℕ → ℕ → Bool
-serves sort limit v found = cond (eqb sort none) (ltb v limit) (eqb found sort)
 
 unfoldable pub fourth_fits : ℕ → ℕ → Bool
 fourth_fits kind v =
@@ -22,10 +18,6 @@ fourth_fits kind v =
 
 abbrev pub is_known_in : Row → ℕ → Bool
 is_known_in r v = leb r.first v && leb v r.last
-
--- the node of the bytes n and the row r, in a table of version v, at least 1, where x and y tell whether its operand bytes serve
-abbrev pub fits_with : Raw → Row → ℕ → Bool → Bool → Bool
-fits_with n r v x y = is_known_in r v && (fourth_fits r.fourth n.fourth && (x && y))
 
 -- node k, in a table of version v
 unfoldable pub node_fits : List ℕ → ℕ → ℕ → Bool
@@ -42,15 +34,11 @@ unfit s k = not (node_fits s (version s) k)
 
 -- where the operand byte v is counted
 unfoldable pub slot_of : ℕ → ℕ → ℕ
-slot_of sort v = cond (eqb sort none) 255 v
+slot_of sort v = cond (eqb sort none) 120 (named_by v)
 
--- node k of n, of the sort and in so many operand places
-abbrev pub strays : ℕ → ℕ → ℕ → ℕ → Bool
-strays n k sort places = not (ltb sort sequence) && (not (eqb (k + 1) n) && not (eqb places 1))
+-- each of the counts is that of its node, in the n nodes
+unfoldable pub Counted : List ℕ → ℕ → List ℕ → Type 0
+Counted s n uses = (k : ℕ) → k < 120 → get_or uses k 0 ≡ uses_of s k n
 
 unfoldable pub astray : List ℕ → ℕ → ℕ → Bool
-astray s n k = strays n k (sort_at s k) (uses_of s k n)
-
--- by the sorts and the counts that are kept
-unfoldable pub strays_in : List ℕ → List ℕ → ℕ → ℕ → Bool
-strays_in sorts uses n k = strays n k (get_or sorts k none) (get_or uses k 0)
+astray s n k = not (ltb (sort_at s k) sequence) && (not (eqb (k + 1) n) && not (eqb (uses_of s k n) 1))

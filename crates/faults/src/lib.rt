@@ -1,4 +1,4 @@
-// What is wrong with a node of a table: refusals 6 and 7, each held to a test that antt computes. What the tests mean is proved in `table`; refusal 9 is in
-// `hollows`, and the pass that asks all three in `lowest`.
+// What is wrong with the nodes of a table: the lowest node for which refusal 6 or 7 is given, each held to a test that antt computes. What the tests mean is
+// proved in `table`; refusal 9 is found in `hollows`.
 pub mod formed;
 pub mod placed;

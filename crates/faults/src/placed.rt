@@ -1,54 +1,66 @@
 // Refusal 7: the lowest sequence or property node, not the root, in other than one operand place.
-ghost use Rattle.std.specs.Prelude.{◌≡◌, false, not, ◌&&◌, ◌≤◌, ltb, eqb, length};
+ghost use Rattle.std.specs.Prelude.{◌≡◌, ◌+◌, ◌*◌, ◌<◌, ◌≤◌, length};
 ghost use Rattle.refusal.specs.Computed.{first};
-ghost use Rattle.faults.specs.Computed.{slot_of, strays_in};
+ghost use Rattle.nodes.specs.Nodes.{uses_of};
+ghost use Rattle.faults.specs.Computed.{slot_of, astray, Counted};
 
-use nodes::operators::{NONE, SEQUENCE};
-use refusal::wide;
+use nodes::operators::{NONE, SEQUENCE, row_of};
+use nodes::{named, node_at, sort_at};
 
 // Where the operand byte v is counted: at its node, and past all nodes where it is no operand of a sort.
-pub fn slot(sort: u8, v: u8) -> usize
+fn slot(sort: u8, v: u8) -> usize
     ensures value { result ≡ slot_of sort v }
-    ensures upper_bound { result ≤ 255 }
+    ensures upper_bound { result ≤ 120 }
 {
-    if sort == NONE { 255 } else { wide(v) }
+    if sort == NONE { 120 } else { named(v) }
 }
 
-// Whether a node of the sort, in so many operand places, is such a node, if it is not the root.
-fn is_astray(sort: u8, places: u8) -> bool
-    ensures { result ≡ (not (ltb sort 2) && not (eqb places 1)) }
+// In how many operand places of the n nodes each node stands.
+fn uses_in(b: &[u8], n: usize) -> [u8; 121]
+    requires { (n ≤ 120) × (4 * n + 6 ≤ length b.now) }
+    ensures { Counted b.now n result }
 {
-    !(sort < SEQUENCE) & (places != 1)
-}
-
-// Whether there is such a node below n, asked of all of them, which takes less than to stop at the first. The root is the last.
-fn any_astray(sorts: &[u8], uses: &[u8], n: usize) -> bool
-    requires { (n ≤ length sorts.now) × (n ≤ length uses.now) }
-    ensures { result ≡ false → n ≡ first (strays_in sorts.now uses.now n) 0 n }
-{
-    let mut any = false;
-    let mut k: usize = 0;
-    while k + 1 < n {
-        any = any | is_astray(sorts[k], uses[k]);
-        k = k + 1;
+    let mut uses = [0; 121];
+    let mut j: usize = 0;
+    while j < n {
+        let v = node_at(b, j);
+        let r = row_of(v.op);
+        let x = slot(r.x, v.x);
+        let y = slot(r.y, v.y);
+        uses[x] = uses[x] + 1;
+        uses[y] = uses[y] + 1;
+        j = j + 1;
     }
-    any
+    uses
 }
 
-// The lowest such node below n, or n, by the sorts of the nodes and the numbers of their operand places.
-pub fn first_astray(sorts: &[u8], uses: &[u8], n: usize) -> usize
-    requires { (n ≤ length sorts.now) × (n ≤ length uses.now) }
-    ensures { result ≡ first (strays_in sorts.now uses.now n) 0 n }
+// Whether node k, of n, in so many operand places, is such a node.
+fn is_astray(b: &[u8], n: usize, k: usize, places: u8) -> bool
+    requires { (k < n) × (4 * n + 6 ≤ length b.now) × (places ≡ uses_of b.now k n) }
+    ensures { result ≡ astray b.now n k }
 {
-    if !any_astray(sorts, uses, n) {
-        return n;
+    if sort_at(b, k) < SEQUENCE {
+        return false;
     }
+    if k + 1 == n {
+        return false;
+    }
+    places != 1
+}
+
+// The lowest such node below n, or n.
+pub fn first_astray(b: &[u8], n: usize) -> usize
+    requires { (n ≤ 120) × (4 * n + 6 ≤ length b.now) }
+    ensures { result ≡ first (astray b.now n) 0 n }
+{
+    let uses = uses_in(b, n);
+    let mut lowest = n;
     let mut k: usize = 0;
-    while k + 1 < n {
-        if is_astray(sorts[k], uses[k]) {
-            return k;
+    while k < lowest {
+        if is_astray(b, n, k, uses[k]) {
+            lowest = k;
         }
         k = k + 1;
     }
-    n
+    lowest
 }

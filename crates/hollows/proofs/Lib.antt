@@ -1,3 +1,2 @@
--- Laws that the proofs of this crate and of the crates above cite.
-pub mod Bytes
+-- Laws that the proofs of this crate and of `table` cite.
 pub mod Keeping

@@ -1,6 +1,7 @@
 -- Two flags a sequence, what it matches of letters ⊤ alone, and the nodes that ask for a match where there is none: how the code finds refusal 9.
 -- `table/proofs/Topping.antt` shows that they are what matching says. Assumes nothing.
-use Rattle.std.specs.Prelude.{ℕ, zero, suc, ◌-◌, ◌%◌, Bool, true, false, not, cond, ◌&&◌, ◌||◌, List, [], ◌∷◌, ◌++◌, eqb, ltb, get_or}
+use Rattle.std.specs.Prelude.{ℕ, zero, suc, ◌-◌, Bool, true, false, not, cond, ◌&&◌, ◌||◌, List, [], ◌∷◌, ◌++◌, eqb, get_or}
+use Rattle.hollows.specs.declared.Tops.{Tops}
 use Rattle.nodes.specs.declared.Node.{Node}
 use Rattle.nodes.specs.declared.Node.TheVariants.{Boolean, Sequence, Property}
 use Rattle.nodes.specs.declared.SequenceOp.{SequenceOp}
@@ -14,19 +15,8 @@ use Rattle.nodes.specs.declared.DerivedProperty.TheVariants.{ImpliesNext, Follow
 use Rattle.nodes.specs.Nodes.{raw_at, node_at}
 
 -- whether the sequence matches no letter, and whether it matches k letters ⊤ for some k of at least 1
-pub record Tops : Type 0 where
-  pub empty : Bool
-  pub some : Bool
-
 abbrev pub flags : Bool → Bool → Tops
 flags e m = record { empty = e; some = m }
-
--- the two as a byte, in which 1 stands for the first and 2 for the second, and the flags of a byte
-unfoldable pub byte_of : Tops → ℕ
-byte_of t = cond t.some (cond t.empty 3 2) (cond t.empty 1 0)
-
-unfoldable pub tops_of : ℕ → Tops
-tops_of b = flags (eqb (b % 2) 1) (ltb 1 b)
 
 abbrev pub nothing : Tops
 nothing = flags false false

@@ -1,69 +1,89 @@
-// Refusal 9: whether a node is strong, weak or |-> over a sequence that matches no k letters ⊤, k at least 1. Two flags a sequence are enough, and
+// Refusal 9: the lowest strong, weak or |-> node over a sequence that matches no k letters ⊤, k at least 1. Two flags a sequence are enough, and
 // no clock changes them: what they say of matching is proved in `table`.
-ghost use Rattle.std.specs.Prelude.{◌≡◌, cond, ◌&&◌, ◌≤◌, eqb};
-ghost use Rattle.hollows.specs.Flags.{byte_of, tops_of, then_tops, fused_tops, either_tops, range_tops, later_tops, delay_tops, derived_tops, sequence_tops, node_tops, hollow_derived, hollow_property, hollow_node};
+ghost use Rattle.std.specs.Prelude.{◌≡◌, ◌+◌, ◌*◌, ◌≤◌, length};
+ghost use Rattle.refusal.specs.Computed.{first};
+ghost use Rattle.hollows.specs.Flags.{then_tops, fused_tops, either_tops, range_tops, later_tops, delay_tops, derived_tops, sequence_tops, node_tops, hollow_derived, hollow_property, hollow_node, hollow};
 
-use nodes::{DerivedProperty, DerivedSequence, Node, PropertyOp, SequenceOp};
+use nodes::{
+    DerivedProperty, DerivedSequence, Node, PropertyOp, SequenceOp, decode, named, node_at,
+};
 
-// What a sequence matches of a word of letters ⊤ alone, as a byte: 1 for no letter, 2 for some letters, one or more, and 3 for both.
-pub const NOTHING: u8 = 0;
+// What a sequence matches of a word of letters ⊤ alone: no letter; some letters, one or more.
+#[derive(Drop)]
+pub struct Tops {
+    pub empty: bool,
+    pub some: bool,
+}
 
-const NO_LETTER: u8 = 1;
+const NOTHING: Tops = Tops {
+    empty: false,
+    some: false,
+};
 
-const A_LETTER: u8 = 2;
+const A_LETTER: Tops = Tops {
+    empty: false,
+    some: true,
+};
 
-const BOTH: u8 = 3;
+const NO_LETTER: Tops = Tops {
+    empty: true,
+    some: false,
+};
 
 // Of ##1: a match of a and then one of b, either part possibly empty.
-fn then_tops(a: u8, b: u8) -> u8
-    requires { (a ≤ 3) × (b ≤ 3) }
-    ensures { result ≡ byte_of (then_tops (tops_of a) (tops_of b)) }
+fn then_tops(a: Tops, b: Tops) -> Tops
+    ensures { result ≡ then_tops a b }
 {
-    if (a == NOTHING) | (b == NOTHING) {
-        return NOTHING;
+    Tops {
+        empty: a.empty & b.empty,
+        some: (a.empty & b.some) | (a.some & (b.empty | b.some)),
     }
-    (a & b & NO_LETTER) | ((a | b) & A_LETTER)
 }
 
 // Of ##0: two matches that share one letter.
-fn fused_tops(a: u8, b: u8) -> u8
-    requires { (a ≤ 3) × (b ≤ 3) }
-    ensures { result ≡ byte_of (fused_tops (tops_of a) (tops_of b)) }
+fn fused_tops(a: Tops, b: Tops) -> Tops
+    ensures { result ≡ fused_tops a b }
 {
-    a & b & A_LETTER
+    Tops {
+        empty: false,
+        some: a.some & b.some,
+    }
 }
 
 // Of or.
-fn either_tops(a: u8, b: u8) -> u8
-    requires { (a ≤ 3) × (b ≤ 3) }
-    ensures { result ≡ byte_of (either_tops (tops_of a) (tops_of b)) }
+fn either_tops(a: Tops, b: Tops) -> Tops
+    ensures { result ≡ either_tops a b }
 {
-    a | b
+    Tops {
+        empty: a.empty | b.empty,
+        some: a.some | b.some,
+    }
 }
 
 // Of x[*m:n].
-fn range_tops(m: usize, n: usize, x: u8) -> u8
-    requires { x ≤ 3 }
-    ensures { result ≡ byte_of (range_tops m n (tops_of x)) }
+fn range_tops(m: usize, n: usize, x: Tops) -> Tops
+    ensures { result ≡ range_tops m n x }
 {
-    if m != 0 {
-        return x;
+    if m == 0 {
+        Tops {
+            empty: true,
+            some: (n != 0) & x.some,
+        }
+    } else {
+        x
     }
-    if n == 0 { NO_LETTER } else { x | NO_LETTER }
 }
 
 // Of x ##1 1[*m:n] ##1 y.
-fn later_tops(m: usize, n: usize, x: u8, y: u8) -> u8
-    requires { (x ≤ 3) × (y ≤ 3) }
-    ensures { result ≡ byte_of (later_tops m n (tops_of x) (tops_of y)) }
+fn later_tops(m: usize, n: usize, x: Tops, y: Tops) -> Tops
+    ensures { result ≡ later_tops m n x y }
 {
     then_tops(then_tops(x, range_tops(m, n, A_LETTER)), y)
 }
 
 // Of x ##[m:n] y.
-fn delay_tops(m: usize, n: usize, x: u8, y: u8) -> u8
-    requires { (x ≤ 3) × (y ≤ 3) }
-    ensures { result ≡ byte_of (delay_tops m n (tops_of x) (tops_of y)) }
+fn delay_tops(m: usize, n: usize, x: Tops, y: Tops) -> Tops
+    ensures { result ≡ delay_tops m n x y }
 {
     let f = fused_tops(x, y);
     if n == 0 {
@@ -76,22 +96,26 @@ fn delay_tops(m: usize, n: usize, x: u8, y: u8) -> u8
 }
 
 // Of a derived sequence, as it is expanded, at any counts.
-fn derived_tops(q: DerivedSequence, x: u8, y: u8) -> u8
-    requires { (x ≤ 3) × (y ≤ 3) }
-    ensures { result ≡ byte_of (derived_tops q (tops_of x) (tops_of y)) }
+fn derived_tops(q: DerivedSequence, x: Tops, y: Tops) -> Tops
+    ensures { result ≡ derived_tops q x y }
 {
     match q {
         DerivedSequence::Repeated(_, m, n) => range_tops(m, n, x),
         DerivedSequence::Delayed(_, _, m, n) => delay_tops(m, n, x, y),
-        DerivedSequence::Goto(_, m) => if m == 0 { NO_LETTER } else { A_LETTER },
-        DerivedSequence::Nonconsecutive(_, m) => if m == 0 { BOTH } else { A_LETTER },
+        DerivedSequence::Goto(_, m) => Tops {
+            empty: m == 0,
+            some: m != 0,
+        },
+        DerivedSequence::Nonconsecutive(_, m) => Tops {
+            empty: m == 0,
+            some: true,
+        },
     }
 }
 
 // Of a sequence, by its kind and what its operands x and y match.
-fn sequence_tops(q: SequenceOp, x: u8, y: u8) -> u8
-    requires { (x ≤ 3) × (y ≤ 3) }
-    ensures { result ≡ byte_of (sequence_tops q (tops_of x) (tops_of y)) }
+fn sequence_tops(q: SequenceOp, x: Tops, y: Tops) -> Tops
+    ensures { result ≡ sequence_tops q x y }
 {
     match q {
         SequenceOp::Letter(_) => A_LETTER,
@@ -106,9 +130,8 @@ fn sequence_tops(q: SequenceOp, x: u8, y: u8) -> u8
 }
 
 // Booleans and properties match nothing.
-pub fn node_tops(v: Node, x: u8, y: u8) -> u8
-    requires { (x ≤ 3) × (y ≤ 3) }
-    ensures { result ≡ byte_of (node_tops v (tops_of x) (tops_of y)) }
+fn node_tops(v: Node, x: Tops, y: Tops) -> Tops
+    ensures { result ≡ node_tops v x y }
 {
     match v {
         Node::Boolean(_) => NOTHING,
@@ -118,14 +141,13 @@ pub fn node_tops(v: Node, x: u8, y: u8) -> u8
 }
 
 // Whether what the derived node is expanded to asks for a match of x, or of x and one letter more, which matches no letters ⊤.
-fn hollow_derived(p: DerivedProperty, x: u8) -> bool
-    requires { x ≤ 3 }
-    ensures { result ≡ hollow_derived p (tops_of x) }
+fn hollow_derived(p: DerivedProperty, x: Tops) -> bool
+    ensures { result ≡ hollow_derived p x }
 {
     match p {
-        DerivedProperty::ImpliesNext(_, _) => x == NOTHING,
-        DerivedProperty::Followed(_, _) => !(NO_LETTER < x),
-        DerivedProperty::FollowedNext(_, _) => x == NOTHING,
+        DerivedProperty::ImpliesNext(_, _) => !(x.empty | x.some),
+        DerivedProperty::Followed(_, _) => !x.some,
+        DerivedProperty::FollowedNext(_, _) => !(x.empty | x.some),
         DerivedProperty::Always(_) => false,
         DerivedProperty::Eventually(_) => false,
         DerivedProperty::StrongUntil(_, _) => false,
@@ -134,17 +156,16 @@ fn hollow_derived(p: DerivedProperty, x: u8) -> bool
 }
 
 // Whether the node asks for a match of its operand x, which matches no letters ⊤.
-fn hollow_property(p: PropertyOp, x: u8) -> bool
-    requires { x ≤ 3 }
-    ensures { result ≡ hollow_property p (tops_of x) }
+fn hollow_property(p: PropertyOp, x: Tops) -> bool
+    ensures { result ≡ hollow_property p x }
 {
     match p {
-        PropertyOp::Strong(_) => !(NO_LETTER < x),
-        PropertyOp::Weak(_) => !(NO_LETTER < x),
+        PropertyOp::Strong(_) => !x.some,
+        PropertyOp::Weak(_) => !x.some,
         PropertyOp::Negated(_) => false,
         PropertyOp::AnyOf(_, _) => false,
         PropertyOp::BothOf(_, _) => false,
-        PropertyOp::Implies(_, _) => !(NO_LETTER < x),
+        PropertyOp::Implies(_, _) => !x.some,
         PropertyOp::Next(_) => false,
         PropertyOp::Until(_, _) => false,
         PropertyOp::Ticked(_, _) => false,
@@ -153,9 +174,8 @@ fn hollow_property(p: PropertyOp, x: u8) -> bool
 }
 
 // Booleans and sequences ask for nothing.
-fn is_hollow(v: Node, x: u8) -> bool
-    requires { x ≤ 3 }
-    ensures { result ≡ hollow_node v (tops_of x) }
+fn is_hollow(v: Node, x: Tops) -> bool
+    ensures { result ≡ hollow_node v x }
 {
     match v {
         Node::Boolean(_) => false,
@@ -164,14 +184,23 @@ fn is_hollow(v: Node, x: u8) -> bool
     }
 }
 
-// The lowest such node so far, n for none: node k, where there was none and it is one.
-pub fn lowest_hollow(v: Node, x: u8, lowest: usize, n: usize, k: usize) -> usize
-    requires { x ≤ 3 }
-    ensures { result ≡ cond (hollow_node v (tops_of x) && eqb lowest n) k lowest }
+// The lowest such node below n, or n: one pass, with the flags of the nodes below.
+pub fn first_hollow(b: &[u8], n: usize) -> usize
+    requires { (n ≤ 120) × (4 * n + 6 ≤ length b.now) }
+    ensures { result ≡ first (hollow b.now) 0 n }
 {
-    if is_hollow(v, x) & (lowest == n) {
-        k
-    } else {
-        lowest
+    let mut done = [NOTHING; 121];
+    let mut k: usize = 0;
+    while k < n {
+        let raw = node_at(b, k);
+        let v = decode(raw);
+        let x = done[named(raw.x)];
+        let y = done[named(raw.y)];
+        if is_hollow(v, x) {
+            return k;
+        }
+        done[k] = node_tops(v, x, y);
+        k = k + 1;
     }
+    n
 }

@@ -218,7 +218,6 @@ module _ (s : List ℕ) (wrong n start words : ℕ) (lent : List ℕ) (r : Renum
         let l = new_built.long in
         let h = enough in
         record {
-          few = few;
           bytes = omega arith;
           ready = λ k h. rows_ready t xs new_checks keeps.clockless short k (omega arith);
           short = short;

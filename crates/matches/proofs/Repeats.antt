@@ -41,7 +41,7 @@ module _ (M : ℕ → ℕ → Bool) (n : ℕ) where
       (reached_where (on i) (repeated M n d) (repeated M n e) n j (λ m l t. let a = after i m t in enough d e m j (omega arith) (omega arith)))
 
   -- word i from the words above it
-  pub repeat_step : (i j : ℕ) (g : ℕ → ℕ → Bool) → ((m : ℕ) → i < m → m ≤ n → g m j ≡ repeated M n (n - m) m j)
+  repeat_step : (i j : ℕ) (g : ℕ → ℕ → Bool) → ((m : ℕ) → i < m → m ≤ n → g m j ≡ repeated M n (n - m) m j)
       → (M i j || reached (on i) g n j) ≡ repeated M n (n - i) i j
   unfolding repeated
   repeat_step i j g h =
@@ -64,7 +64,7 @@ module _ (M : ℕ → ℕ → Bool) (n : ℕ) where
         (λ (h : p ≤ m). ⊎_elim (λ e. subst (λ x. T (repeated M n (n - x) x j)) (sym e) r) (λ (u : p < m). step_in p m j lm t u r) (eq-or-lt_of_le h))
         (side m p)
 
-    pub chained : (d p m j : ℕ) → p ≤ n → m ≤ n → T (repeated M n d p m) → T (repeated M n (n - m) m j) → T (repeated M n (n - p) p j)
+    chained : (d p m j : ℕ) → p ≤ n → m ≤ n → T (repeated M n d p m) → T (repeated M n (n - m) m j) → T (repeated M n (n - p) p j)
     unfolding repeated
     chained zero p m j lp lm t r = first_in p m j lp lm t r
     chained (suc d) p m j lp lm t r =
@@ -72,10 +72,6 @@ module _ (M : ℕ → ℕ → Bool) (n : ℕ) where
         (λ u. first_in p m j lp lm u r)
         (λ q. step_in p q.0 j q.1 q.2.0 q.2.1 (chained d q.0 m j q.1 lm q.3 r))
         ((is_or (is_test (M p m)) (is_reached (repeated M n d) n m (is_on_lem p) (λ x. is_test (repeated M n d x m)))).to t)
-
--- the places after i of a set
-pub after_start : (f i s : ℕ) → Is s (λ j. has f j && ltb i j) → (m : ℕ) → T (has s m) → i < m
-after_start f i s es m t = ((is_as (es m) (is_and (is_test (has f m)) (is_lt i m))).to t).1
 
 -- the node's own words above i chain
 pub repeat_chains : (rows own : List ℕ) (n a i f s : ℕ) → Forward rows a n → Is s (λ j. has f j && ltb i j)
@@ -87,7 +83,7 @@ repeat_chains rows own n a i f s forward es h =
     }
   where
     after_i : (m : ℕ) → T (has s m) → i < m
-    after_i = after_start f i s es
+    after_i m t = ((is_as (es m) (is_and (is_test (has f m)) (is_lt i m))).to t).1
 
 -- the same of sets: f is word i of row a, s its places after i, t what is reached from s by the words above, r the two joined
 pub repeat_ends : (rows own : List ℕ) (n a i f s t r : ℕ) → f ≡ word_in rows a i → Is s (λ j. has f j && ltb i j)

@@ -2,7 +2,6 @@
 // fourth byte may be, and the length of its block.
 ghost use Rattle.std.specs.Prelude.{◌≡◌};
 ghost use Rattle.nodes.specs.Operators.{row_of};
-ghost use Rattle.nodes.specs.Computed.{row_in};
 
 // What an operator fixes: the first and the last version in which it is known; the node's own sort; the sort of x, or, where that is 0, the number that x
 // is below; the sort of y, 0 for none; what the fourth byte may be; and the length of its block in rewriting under a clock.
@@ -39,109 +38,265 @@ pub const NEWEST: usize = 3;
 
 pub const BASE: usize = 2;
 
-// A row as one number, which is looked up where eight fields would be jumped to: what each field counts for in it.
-const FIRST: u64 = 1;
+const UNKNOWN: Row = Row {
+    first: 0,
+    last: 0,
+    own: NONE,
+    x: NONE,
+    limit: 0,
+    y: NONE,
+    fourth: ZERO,
+    block: 0,
+};
 
-const LAST: u64 = 256 * FIRST;
+const CONSTANT: Row = Row {
+    first: 1,
+    last: 4,
+    own: BOOLEAN,
+    x: NONE,
+    limit: 2,
+    y: NONE,
+    fourth: ZERO,
+    block: 1,
+};
 
-const OWN: u64 = 256 * LAST;
-
-const X: u64 = 256 * OWN;
-
-const LIMIT: u64 = 256 * X;
-
-const Y: u64 = 256 * LIMIT;
-
-const FOURTH: u64 = 256 * Y;
-
-const BLOCK: u64 = 256 * FOURTH;
-
-// Known from version 1 or 2 on; known in version 3 alone, as what is expanded before anything is rewritten.
-const OLD: u64 = FIRST + 4 * LAST;
-
-const NEW: u64 = 2 * FIRST + 4 * LAST;
-
-const DERIVED: u64 = 3 * FIRST + 3 * LAST + BLOCK;
-
-const CONSTANT: u64 = OLD + BOOLEAN as u64 * OWN + 2 * LIMIT + BLOCK;
-
-const SIGNAL: u64 = OLD + BOOLEAN as u64 * OWN + 64 * LIMIT + BLOCK;
+const SIGNAL: Row = Row {
+    first: 1,
+    last: 4,
+    own: BOOLEAN,
+    x: NONE,
+    limit: 64,
+    y: NONE,
+    fourth: ZERO,
+    block: 1,
+};
 
 // A signal risen, or fallen, since the sample before.
-const CHANGE: u64 = NEW + BOOLEAN as u64 * OWN + 64 * LIMIT + BLOCK;
+const CHANGE: Row = Row {
+    first: 2,
+    last: 4,
+    own: BOOLEAN,
+    x: NONE,
+    limit: 64,
+    y: NONE,
+    fourth: ZERO,
+    block: 1,
+};
 
-const BOOLEAN_NOT: u64 = OLD + BOOLEAN as u64 * OWN + BOOLEAN as u64 * X + BLOCK;
+const BOOLEAN_NOT: Row = Row {
+    first: 1,
+    last: 4,
+    own: BOOLEAN,
+    x: BOOLEAN,
+    limit: 0,
+    y: NONE,
+    fourth: ZERO,
+    block: 1,
+};
 
-const BOOLEAN_TWO: u64 = OLD
-    + BOOLEAN as u64 * OWN
-    + BOOLEAN as u64 * X
-    + BOOLEAN as u64 * Y
-    + BLOCK;
+const BOOLEAN_TWO: Row = Row {
+    first: 1,
+    last: 4,
+    own: BOOLEAN,
+    x: BOOLEAN,
+    limit: 0,
+    y: BOOLEAN,
+    fourth: ZERO,
+    block: 1,
+};
 
-const LETTER: u64 = OLD + SEQUENCE as u64 * OWN + BOOLEAN as u64 * X + 9 * BLOCK;
+const LETTER: Row = Row {
+    first: 1,
+    last: 4,
+    own: SEQUENCE,
+    x: BOOLEAN,
+    limit: 0,
+    y: NONE,
+    fourth: ZERO,
+    block: 9,
+};
 
-const SEQUENCE_TWO: u64 = OLD
-    + SEQUENCE as u64 * OWN
-    + SEQUENCE as u64 * X
-    + SEQUENCE as u64 * Y
-    + BLOCK;
+const SEQUENCE_TWO: Row = Row {
+    first: 1,
+    last: 4,
+    own: SEQUENCE,
+    x: SEQUENCE,
+    limit: 0,
+    y: SEQUENCE,
+    fourth: ZERO,
+    block: 1,
+};
 
-const SEQUENCE_ONE: u64 = OLD + SEQUENCE as u64 * OWN + SEQUENCE as u64 * X + BLOCK;
+const SEQUENCE_ONE: Row = Row {
+    first: 1,
+    last: 4,
+    own: SEQUENCE,
+    x: SEQUENCE,
+    limit: 0,
+    y: NONE,
+    fourth: ZERO,
+    block: 1,
+};
 
-const SEQUENCE_CLOCK: u64 = OLD + SEQUENCE as u64 * OWN + BOOLEAN as u64 * X + SEQUENCE as u64 * Y;
+const SEQUENCE_CLOCK: Row = Row {
+    first: 1,
+    last: 4,
+    own: SEQUENCE,
+    x: BOOLEAN,
+    limit: 0,
+    y: SEQUENCE,
+    fourth: ZERO,
+    block: 0,
+};
 
-const OF_SEQUENCE: u64 = OLD + PROPERTY as u64 * OWN + SEQUENCE as u64 * X + BLOCK;
+const OF_SEQUENCE: Row = Row {
+    first: 1,
+    last: 4,
+    own: PROPERTY,
+    x: SEQUENCE,
+    limit: 0,
+    y: NONE,
+    fourth: ZERO,
+    block: 1,
+};
 
-const PROPERTY_NOT: u64 = OLD + PROPERTY as u64 * OWN + PROPERTY as u64 * X + BLOCK;
+const PROPERTY_NOT: Row = Row {
+    first: 1,
+    last: 4,
+    own: PROPERTY,
+    x: PROPERTY,
+    limit: 0,
+    y: NONE,
+    fourth: ZERO,
+    block: 1,
+};
 
-const PROPERTY_TWO: u64 = OLD
-    + PROPERTY as u64 * OWN
-    + PROPERTY as u64 * X
-    + PROPERTY as u64 * Y
-    + BLOCK;
+const PROPERTY_TWO: Row = Row {
+    first: 1,
+    last: 4,
+    own: PROPERTY,
+    x: PROPERTY,
+    limit: 0,
+    y: PROPERTY,
+    fourth: ZERO,
+    block: 1,
+};
 
-const IMPLIES: u64 = OLD
-    + PROPERTY as u64 * OWN
-    + SEQUENCE as u64 * X
-    + PROPERTY as u64 * Y
-    + BLOCK;
+const IMPLIES: Row = Row {
+    first: 1,
+    last: 4,
+    own: PROPERTY,
+    x: SEQUENCE,
+    limit: 0,
+    y: PROPERTY,
+    fourth: ZERO,
+    block: 1,
+};
 
-const NEXTTIME: u64 = OLD + PROPERTY as u64 * OWN + PROPERTY as u64 * X + 14 * BLOCK;
+const NEXTTIME: Row = Row {
+    first: 1,
+    last: 4,
+    own: PROPERTY,
+    x: PROPERTY,
+    limit: 0,
+    y: NONE,
+    fourth: ZERO,
+    block: 14,
+};
 
-const UNTIL: u64 = OLD
-    + PROPERTY as u64 * OWN
-    + PROPERTY as u64 * X
-    + PROPERTY as u64 * Y
-    + 9 * BLOCK;
+const UNTIL: Row = Row {
+    first: 1,
+    last: 4,
+    own: PROPERTY,
+    x: PROPERTY,
+    limit: 0,
+    y: PROPERTY,
+    fourth: ZERO,
+    block: 9,
+};
 
-const PROPERTY_CLOCK: u64 = OLD + PROPERTY as u64 * OWN + BOOLEAN as u64 * X + PROPERTY as u64 * Y;
+const PROPERTY_CLOCK: Row = Row {
+    first: 1,
+    last: 4,
+    own: PROPERTY,
+    x: BOOLEAN,
+    limit: 0,
+    y: PROPERTY,
+    fourth: ZERO,
+    block: 0,
+};
 
-// [*m:n]; ##[m:n]; [->m] and [=m]; |=>, #-# and #=#; s_until; always, s_eventually and s_nexttime.
-const REPEATED: u64 = DERIVED + SEQUENCE as u64 * OWN + SEQUENCE as u64 * X + RANGE as u64 * FOURTH;
+// The derived operators, which are expanded before anything is rewritten: [*m:n]; ##[m:n]; [->m] and [=m]; |=>, #-# and #=#; s_until; always,
+// s_eventually and s_nexttime.
+const REPEATED: Row = Row {
+    first: 3,
+    last: 3,
+    own: SEQUENCE,
+    x: SEQUENCE,
+    limit: 0,
+    y: NONE,
+    fourth: RANGE,
+    block: 1,
+};
 
-const DELAYED: u64 = DERIVED
-    + SEQUENCE as u64 * OWN
-    + SEQUENCE as u64 * X
-    + SEQUENCE as u64 * Y
-    + RANGE as u64 * FOURTH;
+const DELAYED: Row = Row {
+    first: 3,
+    last: 3,
+    own: SEQUENCE,
+    x: SEQUENCE,
+    limit: 0,
+    y: SEQUENCE,
+    fourth: RANGE,
+    block: 1,
+};
 
-const OCCURRING: u64 = DERIVED + SEQUENCE as u64 * OWN + BOOLEAN as u64 * X + COUNT as u64 * FOURTH;
+const OCCURRING: Row = Row {
+    first: 3,
+    last: 3,
+    own: SEQUENCE,
+    x: BOOLEAN,
+    limit: 0,
+    y: NONE,
+    fourth: COUNT,
+    block: 1,
+};
 
-const DERIVED_IMPLIES: u64 = DERIVED
-    + PROPERTY as u64 * OWN
-    + SEQUENCE as u64 * X
-    + PROPERTY as u64 * Y;
+const DERIVED_IMPLIES: Row = Row {
+    first: 3,
+    last: 3,
+    own: PROPERTY,
+    x: SEQUENCE,
+    limit: 0,
+    y: PROPERTY,
+    fourth: ZERO,
+    block: 1,
+};
 
-const DERIVED_ONE: u64 = DERIVED + PROPERTY as u64 * OWN + PROPERTY as u64 * X;
+const DERIVED_ONE: Row = Row {
+    first: 3,
+    last: 3,
+    own: PROPERTY,
+    x: PROPERTY,
+    limit: 0,
+    y: NONE,
+    fourth: ZERO,
+    block: 1,
+};
 
-const DERIVED_TWO: u64 = DERIVED
-    + PROPERTY as u64 * OWN
-    + PROPERTY as u64 * X
-    + PROPERTY as u64 * Y;
+const DERIVED_TWO: Row = Row {
+    first: 3,
+    last: 3,
+    own: PROPERTY,
+    x: PROPERTY,
+    limit: 0,
+    y: PROPERTY,
+    fourth: ZERO,
+    block: 1,
+};
 
-// The row of an operator as its number, 0 for an unknown one.
-fn number_of(op: u8) -> u64
-    ensures { row_in result ≡ row_of op }
+// The row of an operator.
+pub fn row_of(op: u8) -> Row
+    ensures { result ≡ row_of op }
 {
     match op {
         0 => CONSTANT,
@@ -178,23 +333,6 @@ fn number_of(op: u8) -> u64
         45 => DERIVED_ONE,
         46 => DERIVED_TWO,
         47 => DERIVED_ONE,
-        _ => 0,
-    }
-}
-
-// The row of an operator.
-pub fn row_of(op: u8) -> Row
-    ensures { result ≡ row_of op }
-{
-    let n = number_of(op);
-    Row {
-        first: (n / FIRST % 256) as u8,
-        last: (n / LAST % 256) as u8,
-        own: (n / OWN % 256) as u8,
-        x: (n / X % 256) as u8,
-        limit: (n / LIMIT % 256) as u8,
-        y: (n / Y % 256) as u8,
-        fourth: (n / FOURTH % 256) as u8,
-        block: (n / BLOCK % 256) as u8,
+        _ => UNKNOWN,
     }
 }

@@ -1,38 +1,27 @@
 -- Laws of the new numbers: how long a block may be, where it stands, and which node stands for a node. Assumes nothing.
 use native.Mathlib.Omega.{arith}
 use native.Mathlib.Nat.{not-suc-le-zero}
-use borrow.Author.Tests.{eqb-true, ne_eqb}
-use mathlib.Core.Path.{◌≡◌, refl, ◌∙◌, sym}
-use mathlib.Core.Bool.{Bool, true, false, not, cond, ◌||◌}
+use mathlib.Core.Path.{◌≡◌, refl}
+use mathlib.Core.Bool.{Bool, true, false, cond}
 use mathlib.Core.List.{List}
 use Prim.Native.Nat.{ℕ, zero, suc, ◌+◌, ◌*◌, ◌-◌, ◌<◌, ◌≤◌}
-use lib.Dec.{leb, eqb}
-use Rattle.telling.proofs.Telling.{is_imp, is_eq, is_le}
+use lib.Dec.{leb}
+use Rattle.telling.proofs.Telling.{is_le}
 use Rattle.refusal.specs.Heading.{count}
-use Rattle.nodes.specs.Operators.{boolean, operators, row_of}
-use Rattle.nodes.specs.Nodes.{raw_at, row_at, sort_at, WellFormed}
+use Rattle.nodes.specs.Operators.{operators, row_of}
+use Rattle.nodes.specs.Nodes.{raw_at, row_at, WellFormed}
 use Rattle.nodes.specs.NodeClock.{Ref, free_r, on_r}
 use Rattle.nodes.proofs.Lookup.{row_passes}
 use Rattle.clocks.specs.Clocks.{is_clock}
 use Rattle.clocks.proofs.Timing.{operand_below}
 use Rattle.numbers.specs.Numbers.{sum, is_boolean, is_other, length_under, length_of, new_count, taken, start_of, number_in, number_of}
-use Rattle.numbers.proofs.Sums.{sum_in, sum_bound, sum_same, sum_split}
+use Rattle.numbers.proofs.Sums.{sum_in, sum_bound, sum_split}
 
 -- ---- block lengths
 
 block_short : (op : ℕ) → (row_of op).block ≤ 14
 unfolding operators
 block_short op = (is_le (row_of op).block 14).to (row_passes (λ r. leb r.block 14) tt tt op)
-
--- a boolean's block is one node under any clock
-boolean_block : (op : ℕ) → (row_of op).own_val ≡ boolean → (row_of op).block ≡ 1
-unfolding operators
-boolean_block op = (is_imp (is_eq (row_of op).own_val boolean) (is_eq (row_of op).block 1)).to (row_passes (λ r. not (eqb r.own boolean) || eqb r.block 1) tt tt op)
-
-under_one : (ρ : Ref) (b : ℕ) → b ≡ 1 → length_under ρ b ≡ 1
-unfolding length_under
-under_one free_r b e = rw e
-under_one (on_r c) b e = e
 
 under_short : (ρ : Ref) (b c : ℕ) → 1 ≤ c → b ≤ c → length_under ρ b ≤ c
 unfolding length_under
@@ -50,18 +39,6 @@ none_under free_r b e = rw e
 none_under (on_r c) b e = e
 
 -- ---- where the blocks stand
-
-pub boolean_long : (s : List ℕ) (clock : ℕ → Ref) (k : ℕ) → is_boolean s k ≡ true → length_of s clock k ≡ 1
-unfolding is_boolean sort_at
-boolean_long s clock k e = under_one (clock k) (row_at s k).block (boolean_block (raw_at s k).op (eqb-true (row_at s k).own boolean e))
-
--- there are as many booleans under any clocks
-pub booleans_same : (s : List ℕ) (clock other : ℕ → Ref) (k : ℕ) → taken s clock (is_boolean s) k ≡ taken s other (is_boolean s) k
-booleans_same s clock other k = sum_same (λ j. cond (is_boolean s j) (length_of s clock j) 0) (λ j. cond (is_boolean s j) (length_of s other j) 0) k (λ j l. go j (is_boolean s j) refl)
-  where
-    go : (j : ℕ) (b : Bool) → is_boolean s j ≡ b → cond b (length_of s clock j) 0 ≡ cond b (length_of s other j) 0
-    go j true e = boolean_long s clock j e ∙ sym (boolean_long s other j e)
-    go j false e = refl
 
 module _ (s : List ℕ) (clock : ℕ → Ref) where
   length_short : (k : ℕ) → length_of s clock k ≤ 14
@@ -103,16 +80,6 @@ module _ (s : List ℕ) (clock : ℕ → Ref) where
       pub stands_last : is_clock s k ≡ false → number_of s clock k ≡ start_of s clock k + length_of s clock k - 1
       unfolding number_of number_in
       stands_last e = rw e
-
-      -- of a boolean, its only one
-      pub stands_boolean : is_boolean s k ≡ true → number_of s clock k ≡ taken s clock (is_boolean s) k
-      unfolding is_clock start_of
-      stands_boolean e =
-          let l = boolean_long s clock k e in
-          let z : is_clock s k ≡ false = ne_eqb (row_at s k).block 0 (λ q. let n = none_under (clock k) (row_at s k).block q in omega arith) in
-          let p = stands_last z in
-          let q : start_of s clock k ≡ taken s clock (is_boolean s) k = rw e in
-          omega arith
 
       -- a clock node's operand stands for it
       pub stands_operand : is_clock s k ≡ true → number_of s clock k ≡ number_of s clock (raw_at s k).y

@@ -50,16 +50,6 @@ module _ (f g : ℕ → ℕ) where
   sum_same zero h = refl
   sum_same (suc n) h = let a = sum_same n (λ k l. h k (omega arith)) in let b = h n (omega arith) in omega arith
 
-  -- from m on
-  pub sum_from : (m n : ℕ) → m ≤ n → ((k : ℕ) → m ≤ k → f k ≡ g k) → sum f n + sum g m ≡ sum g n + sum f m
-  unfolding sum
-  sum_from m zero h e = let z : m ≡ 0 = omega arith in rw z
-  sum_from m (suc n) h e =
-      ⊎_elim
-      (λ (z : m ≡ suc n). rw z (omega arith))
-      (λ (l : m < suc n). let a = sum_from m n (omega arith) e in let b = e n (omega arith) in omega arith)
-      (eq-or-lt_of_le h)
-
   pub sum_plus : (n : ℕ) → sum (λ k. f k + g k) n ≡ sum f n + sum g n
   unfolding sum
   sum_plus zero = refl

@@ -1,13 +1,14 @@
-// The clock of each node, and how many new nodes there are: the sum of the lengths of their blocks.
-ghost use Rattle.std.specs.Prelude.{◌≡◌, cond, ◌*◌, ◌≤◌, replicate};
+// How many new nodes there are, and the new number of each node: first all booleans in their order, then one block per other node in order.
+ghost use Rattle.std.specs.Prelude.{◌≡◌, cond, false, ◌*◌, ◌-◌, ◌<◌, ◌≤◌, length};
 ghost use Rattle.refusal.specs.Heading.{count};
-ghost use Rattle.clocks.specs.Computed.{AcceptedTable, ref_of, Timed};
+ghost use Rattle.clocks.specs.Computed.{ref_of, Timed};
 ghost use Rattle.numbers.specs.Numbers.{length_under};
-ghost use Rattle.numbers.specs.Computed.{CountsOf};
+ghost use Rattle.numbers.specs.Computed.{CountsOf, Numbered};
 
-use clocks::{UNCLOCKED, handed_down, part};
-use nodes::node_at;
+use clocks::UNCLOCKED;
+use encoding::low;
 use nodes::operators::{BOOLEAN, row_of};
+use nodes::{named, node_at};
 use refusal::wide;
 
 // How many new nodes there are: of the booleans, and of all.
@@ -17,7 +18,7 @@ pub struct Counts {
     pub all: usize,
 }
 
-// One of two numbers, so that the loop below has no branch of its own.
+// One of two numbers, so that the loops below have no branch of their own.
 fn choose(which: bool, a: usize, b: usize) -> usize
     ensures { result ≡ cond which a b }
 {
@@ -25,7 +26,7 @@ fn choose(which: bool, a: usize, b: usize) -> usize
 }
 
 // The length of a block. The operator's row has it for a node under a clock; with no clock it is one node, of a clock node none.
-fn length_under(clock: u8, block: u8) -> usize
+pub fn length_under(clock: u8, block: u8) -> usize
     ensures { result ≡ length_under (ref_of clock) block }
 {
     let long = wide(block);
@@ -36,25 +37,53 @@ fn length_under(clock: u8, block: u8) -> usize
     }
 }
 
-// The clocks of the n nodes, from the root down, in bytes that are lent with no clock in them, and the counts of their blocks. A boolean's block is one node.
-pub fn clocks_of(b: &[u8], n: usize, clocks: &mut [u8]) -> Counts
-    requires { AcceptedTable b.now × (n ≡ count b.now) × (clocks.old ≡ replicate 121 255) }
-    ensures timed { Timed b.now clocks.new × CountsOf b.now clocks.new result }
+// The counts of the n nodes' blocks.
+pub fn counts_of(b: &[u8], n: usize, clocks: &[u8]) -> Counts
+    requires { Timed b.now clocks.now × (n ≡ count b.now) }
+    ensures counts_of { CountsOf b.now clocks.now result }
     ensures booleans_bound { (result.booleans ≤ 14 * n) × (result.all ≤ 14 * n) }
 {
     let mut booleans: usize = 0;
     let mut all: usize = 0;
-    let mut p = n;
-    while 0 < p {
-        p = p - 1;
-        let v = node_at(b, p);
+    let mut k: usize = 0;
+    while k < n {
+        let v = node_at(b, k);
         let r = row_of(v.op);
-        let own = clocks[p];
-        let c = handed_down(r, v.x, own);
-        clocks[part(r.x, v.x)] = c;
-        clocks[part(r.y, v.y)] = c;
-        all = all + length_under(own, r.block);
-        booleans = booleans + choose(r.own == BOOLEAN, 1, 0);
+        let long = length_under(clocks[k], r.block);
+        booleans = booleans + choose(r.own == BOOLEAN, long, 0);
+        all = all + long;
+        k = k + 1;
     }
     Counts { booleans, all }
+}
+
+// The number of the node that stands for a node whose block ends before `end`; for a clock node its operand's.
+fn stands(clock: bool, operand: u8, end: usize) -> u8
+    requires { (end ≤ 120) × (clock ≡ false → 1 ≤ end) }
+    ensures { result ≡ cond clock operand (end - 1) }
+{
+    if clock { operand } else { low(end - 1) }
+}
+
+// The new numbers of the n nodes, where there are so many new nodes, in the bytes lent.
+pub fn numbers_of(b: &[u8], n: usize, clocks: &[u8], counts: Counts, numbers: &mut [u8])
+    requires timed { Timed b.now clocks.now × (n ≡ count b.now) }
+    requires counts_of { CountsOf b.now clocks.now counts × (counts.all ≤ 120) × (length numbers.old ≡ 121) }
+    ensures { Numbered b.now clocks.now numbers.new }
+{
+    let mut first: usize = 0;
+    let mut later = counts.booleans;
+    let mut k: usize = 0;
+    while k < n {
+        let v = node_at(b, k);
+        let r = row_of(v.op);
+        let boolean = r.own == BOOLEAN;
+        let long = length_under(clocks[k], r.block);
+        let start = choose(boolean, first, later);
+        let operand = numbers[named(v.y)];
+        numbers[k] = stands(r.block == 0, operand, start + long);
+        first = first + choose(boolean, long, 0);
+        later = later + choose(boolean, 0, long);
+        k = k + 1;
+    }
 }

@@ -1,2 +1,2 @@
--- A node after its operands.
-pub mod Writing
+-- What each step says.
+pub mod Stepping

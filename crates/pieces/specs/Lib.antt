@@ -1,2 +1,4 @@
--- What writing a form leaves, and what writing one node does.
-pub mod Puts
+-- The pieces that a derived node is expanded to, as forms, and what one step says of a piece.
+pub mod Pieces
+-- What the code is held to on the way there.
+pub mod Steps

@@ -1,87 +1,206 @@
-// What blocks are made of, written after the nodes before it: one node over what was just written, a letter, !b[*0:$] and the group of b[->m]. A table has
-// no room past 120 nodes: where there is none the answer is 121, and it stays so.
-ghost use Rattle.std.specs.Prelude.{◌≡◌, ◌-◌, ◌≤◌, length};
-ghost use Rattle.nodes.specs.Operators.{bytes};
-ghost use Rattle.expansion.specs.Forms.{node};
-ghost use Rattle.expansion.specs.Blocks.{one, letter, any};
-ghost use Rattle.pieces.specs.Puts.{Puts, OnePut};
+// What a derived node is expanded to, piece by piece: one step gives a piece's operator and its operands, which are pieces again or plain bytes.
+ghost use Rattle.std.specs.Prelude.{◌≡◌};
+ghost use Rattle.pieces.specs.declared.SequencePiece.TheVariants.{LetterOf};
+ghost use Rattle.pieces.specs.declared.PropertyPiece.TheVariants.{NotOf};
+ghost use Rattle.pieces.specs.declared.Piece.TheVariants.{Byte, SequenceOf, PropertyOf};
+ghost use Rattle.pieces.specs.Pieces.{subject_piece};
+ghost use Rattle.pieces.specs.Steps.{step, times_step, range_step, delay_step, sequence_step, property_step};
 
-use encoding::{low, put_node};
-use nodes::Raw;
+// What is repeated: node x; a letter of the boolean c; the group of b[->m], where c is !b.
+#[derive(Drop)]
+pub enum Subject {
+    Whole(usize),
+    OneLetter(u8),
+    Group(u8, u8),
+}
 
-// More nodes than a table may have.
-pub const OVER: usize = 121;
+// Pieces that are sequences. A letter b; [*0], [*1:$] and [*0:$] of it; !b[*0:$] ##1 b; [*m]; [*m:n]; x ##0 y; x ##1 1[*m:n]; x ##1 1[*m:n] ##1 y; x ##1 1.
+#[derive(Drop)]
+pub enum SequencePiece {
+    LetterOf(u8),
+    NoLetter(u8),
+    Letters(u8),
+    AnyLetters(u8),
+    GroupOf(u8, u8),
+    Times(Subject, usize),
+    Range(Subject, usize, usize),
+    Meeting(usize, usize),
+    Delay(usize, u8, usize, usize),
+    Later(usize, usize, u8, usize, usize),
+    NextLetter(usize, u8),
+}
 
-// Writes one node.
-pub fn put_one(out: &mut [u8], at: usize, op: u8, x: u8, y: u8) -> usize
-    requires { (at ≤ 121) × (486 ≤ length out.old) }
-    ensures { OnePut out.old at (bytes op x y) result out.new }
+// Pieces that are properties. not x; x |-> not y; x |=> not y; weak(0); not x until weak(0); x until y; s_eventually x; nexttime not x.
+#[derive(Drop)]
+pub enum PropertyPiece {
+    NotOf(usize),
+    ImpliesNot(usize, usize),
+    ImpliesNextNot(usize, usize, u8),
+    WeakOf(u8),
+    Never(usize, u8),
+    UntilOf(usize, usize),
+    EventuallyOf(usize, u8),
+    NextNot(usize),
+}
+
+// A plain byte; node k of the table, whole; a piece of a derived node.
+#[derive(Drop)]
+pub enum Piece {
+    Byte(u8),
+    NodeOf(usize),
+    SequenceOf(SequencePiece),
+    PropertyOf(PropertyPiece),
+}
+
+// A piece's operator and operands.
+#[derive(Drop)]
+pub struct Step {
+    pub op: u8,
+    pub x: Piece,
+    pub y: Piece,
+}
+
+// A step, with its operator and operands.
+pub fn over(op: u8, x: Piece, y: Piece) -> Step
+    ensures { result ≡ step op x y }
 {
-    if 120 <= at {
-        return OVER;
+    Step { op, x, y }
+}
+
+// A step with one operand.
+pub fn one(op: u8, x: Piece) -> Step
+    ensures { result ≡ step op x (Byte 0) }
+{
+    Step {
+        op,
+        x,
+        y: Piece::Byte(0),
     }
-    put_node(
-        out,
-        at,
-        Raw {
-            op,
-            x,
-            y,
-            fourth: 0,
-        },
-    );
-    at + 1
-}
-
-// The node op over what ends before node `at`.
-pub fn put_over(out: &mut [u8], at: usize, op: u8) -> usize
-    requires { (1 ≤ at) × (at ≤ 121) × (486 ≤ length out.old) }
-    ensures { OnePut out.old at (bytes op (at - 1) 0) result out.new }
-{
-    put_one(out, at, op, low(at - 1), 0)
-}
-
-// The node op over two operands: the first ends before node `middle`, the second before node `at`.
-pub fn put_two(out: &mut [u8], middle: usize, at: usize, op: u8) -> usize
-    requires { (1 ≤ middle) × (middle ≤ 121) × (1 ≤ at) × (at ≤ 121) × (486 ≤ length out.old) }
-    ensures { OnePut out.old at (bytes op (middle - 1) (at - 1)) result out.new }
-{
-    put_one(out, at, op, low(middle - 1), low(at - 1))
 }
 
 // A letter of the boolean b.
-pub fn put_letter(out: &mut [u8], at: usize, b: u8) -> usize
-    requires { (at ≤ 121) × (486 ≤ length out.old) }
-    ensures { Puts out.old at (letter b) result out.new }
+fn letter(b: u8) -> Piece
+    ensures { result ≡ SequenceOf (LetterOf b) }
 {
-    put_one(out, at, 16, b, 0)
+    Piece::SequenceOf(SequencePiece::LetterOf(b))
 }
 
-// The node op over a letter of the boolean b: its [*0], its [*1:$] or weak of it.
-pub fn put_over_letter(out: &mut [u8], at: usize, b: u8, op: u8) -> usize
-    requires { (at ≤ 121) × (486 ≤ length out.old) }
-    ensures { Puts out.old at (one op (letter b)) result out.new }
+// not x.
+fn not(x: usize) -> Piece
+    ensures { result ≡ PropertyOf (NotOf x) }
 {
-    let first = put_letter(out, at, b);
-    put_over(out, first, op)
+    Piece::PropertyOf(PropertyPiece::NotOf(x))
 }
 
-// b[*0:$], which is b[*0] or b[*1:$].
-pub fn put_any(out: &mut [u8], at: usize, b: u8) -> usize
-    requires { (at ≤ 121) × (486 ≤ length out.old) }
-    ensures { Puts out.old at (any (letter b)) result out.new }
+// The piece that is repeated.
+fn subject_piece(o: Subject) -> Piece
+    ensures { result ≡ subject_piece o }
 {
-    let none = put_over_letter(out, at, b, 20);
-    let some = put_over_letter(out, none, b, 21);
-    put_two(out, none, some, 19)
+    match o {
+        Subject::Whole(x) => Piece::NodeOf(x),
+        Subject::OneLetter(c) => letter(c),
+        Subject::Group(c, b) => Piece::SequenceOf(SequencePiece::GroupOf(c, b)),
+    }
 }
 
-// The group of b[->m], !b[*0:$] ##1 b, where c is !b.
-pub fn put_group(out: &mut [u8], at: usize, c: u8, b: u8) -> usize
-    requires { (at ≤ 121) × (486 ≤ length out.old) }
-    ensures { Puts out.old at (node 17 (any (letter c)) (letter b)) result out.new }
+// Of [*m].
+pub fn times_step(o: Subject, m: usize) -> Step
+    ensures { result ≡ times_step o m }
 {
-    let any = put_any(out, at, c);
-    let last = put_letter(out, any, b);
-    put_two(out, any, last, 17)
+    let repeated = subject_piece(o);
+    if m == 0 {
+        one(20, repeated)
+    } else {
+        over(
+            17,
+            Piece::SequenceOf(SequencePiece::Times(o, m - 1)),
+            repeated,
+        )
+    }
+}
+
+// Of [*m:n].
+pub fn range_step(o: Subject, m: usize, n: usize) -> Step
+    ensures { result ≡ range_step o m n }
+{
+    if m < n {
+        let shorter = Piece::SequenceOf(SequencePiece::Range(o, m, n - 1));
+        over(19, shorter, Piece::SequenceOf(SequencePiece::Times(o, n)))
+    } else {
+        times_step(o, m)
+    }
+}
+
+// Of x ##[m:n] y, where c is 1.
+pub fn delay_step(x: usize, y: usize, c: u8, m: usize, n: usize) -> Step
+    ensures { result ≡ delay_step x y c m n }
+{
+    if n == 0 {
+        return over(18, Piece::NodeOf(x), Piece::NodeOf(y));
+    }
+    if m == 0 {
+        let meeting = Piece::SequenceOf(SequencePiece::Meeting(x, y));
+        return over(
+            19,
+            meeting,
+            Piece::SequenceOf(SequencePiece::Later(x, y, c, 0, n - 1)),
+        );
+    }
+    let delay = Piece::SequenceOf(SequencePiece::Delay(x, c, m - 1, n - 1));
+    over(17, delay, Piece::NodeOf(y))
+}
+
+// Of a piece that is a sequence.
+pub fn sequence_step(q: SequencePiece) -> Step
+    ensures { result ≡ sequence_step q }
+{
+    match q {
+        SequencePiece::LetterOf(b) => one(16, Piece::Byte(b)),
+        SequencePiece::NoLetter(b) => one(20, letter(b)),
+        SequencePiece::Letters(b) => one(21, letter(b)),
+        SequencePiece::AnyLetters(b) => over(
+            19,
+            Piece::SequenceOf(SequencePiece::NoLetter(b)),
+            Piece::SequenceOf(SequencePiece::Letters(b)),
+        ),
+        SequencePiece::GroupOf(c, b) => over(
+            17,
+            Piece::SequenceOf(SequencePiece::AnyLetters(c)),
+            letter(b),
+        ),
+        SequencePiece::Times(o, m) => times_step(o, m),
+        SequencePiece::Range(o, m, n) => range_step(o, m, n),
+        SequencePiece::Meeting(x, y) => over(18, Piece::NodeOf(x), Piece::NodeOf(y)),
+        SequencePiece::Delay(x, c, m, n) => over(
+            17,
+            Piece::NodeOf(x),
+            Piece::SequenceOf(SequencePiece::Range(Subject::OneLetter(c), m, n)),
+        ),
+        SequencePiece::Later(x, y, c, m, n) => over(
+            17,
+            Piece::SequenceOf(SequencePiece::Delay(x, c, m, n)),
+            Piece::NodeOf(y),
+        ),
+        SequencePiece::NextLetter(x, c) => over(17, Piece::NodeOf(x), letter(c)),
+    }
+}
+
+// Of a piece that is a property.
+pub fn property_step(p: PropertyPiece) -> Step
+    ensures { result ≡ property_step p }
+{
+    match p {
+        PropertyPiece::NotOf(x) => one(34, Piece::NodeOf(x)),
+        PropertyPiece::ImpliesNot(x, y) => over(37, Piece::NodeOf(x), not(y)),
+        PropertyPiece::ImpliesNextNot(x, y, c) => over(
+            37,
+            Piece::SequenceOf(SequencePiece::NextLetter(x, c)),
+            not(y),
+        ),
+        PropertyPiece::WeakOf(c) => one(33, letter(c)),
+        PropertyPiece::Never(x, c) => over(39, not(x), Piece::PropertyOf(PropertyPiece::WeakOf(c))),
+        PropertyPiece::UntilOf(x, y) => over(39, Piece::NodeOf(x), Piece::NodeOf(y)),
+        PropertyPiece::EventuallyOf(x, c) => one(34, Piece::PropertyOf(PropertyPiece::Never(x, c))),
+        PropertyPiece::NextNot(x) => one(38, not(x)),
+    }
 }

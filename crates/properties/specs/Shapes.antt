@@ -1,11 +1,10 @@
 -- A property's three words as the code has them, and the shapes of the two loops that make them: over the starts, and by doubling. Assumes nothing.
-use Rattle.std.specs.Prelude.{◌≡◌, Bool, ◌||◌, ◌&&◌, List, ℕ, ◌/◌, eqb, ltb, length}
+use Rattle.std.specs.Prelude.{◌≡◌, Bool, ◌||◌, ◌&&◌, List, ℕ, eqb, ltb}
 use Rattle.meaning.specs.Words.{Tail, none, tops, bots}
 use Rattle.positions.specs.Member.{has, Is}
 use Rattle.nodes.specs.declared.PropertyOp.{PropertyOp}
-use Rattle.cells.specs.Shares.{share, word_in}
+use Rattle.cells.specs.Shares.{word_in}
 use Rattle.cells.specs.Bits.{follows, property_bit}
-use Rattle.cells.specs.Letters.{Letters}
 use Rattle.properties.specs.declared.Suffixes.{Suffixes}
 use Rattle.runs.specs.declared.Led.{Led}
 use Rattle.runs.specs.Runs.{led}
@@ -37,10 +36,6 @@ pub record Following (rows : List ℕ) (n a : ℕ) (p r : Suffixes) : Type 0 whe
   pub neutral : Is r.neutral.bits (follows rows n a (has p.neutral.bits))
   pub weak : Is r.weak.bits (follows rows n a (has p.weak.bits))
   pub strong : Is r.strong.bits (follows rows n a (has p.strong.bits))
-
--- what is known of the letters among all of the rows
-abbrev pub KnownLetters : List ℕ → ℕ → List ℕ → Type 0
-KnownLetters rows n letters = Letters rows n (length rows / share) letters
 
 -- ---- P until Q by runs: those of P below n lead up to a place of Q below n or, where `last`, up to n
 

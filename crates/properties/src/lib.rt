@@ -5,8 +5,8 @@ ghost use Rattle.std.specs.Prelude.{false, ◌||◌, ◌&&◌, suc, ◌≤◌, l
 ghost use Rattle.positions.specs.Member.{has, Is};
 ghost use Rattle.cells.specs.Shares.{longest, HasRow};
 ghost use Rattle.cells.specs.Ready.{ready_property};
-ghost use Rattle.cells.specs.Bits.{starts, negated_bit, implies_bit, next_bit};
-ghost use Rattle.properties.specs.Shapes.{told, Sets, WordsAt, Satisfying, Following, KnownLetters};
+ghost use Rattle.cells.specs.Bits.{negated_bit, implies_bit, next_bit};
+ghost use Rattle.properties.specs.Shapes.{told, Sets, WordsAt, Satisfying, Following};
 
 use cells::{TOP_WORD, last_letters, starts_of, word_at};
 use nodes::PropertyOp;
@@ -33,11 +33,12 @@ fn three_at(rows: &[u64], p: usize) -> Suffixes
     }
 }
 
-// A match that is not empty: inside the record, where its starts are known, or, with a ⊤ tail, on into its letters.
-fn strong_from(rows: &[u64], n: usize, a: usize, inside: PositionSet) -> Suffixes
-    requires { HasRow (length rows.now) a × Is inside.bits (starts rows.now n a) }
+// A match that is not empty: inside the record or, with a ⊤ tail, on into its letters.
+pub fn strong_of(rows: &[u64], n: usize, a: usize) -> Suffixes
+    requires { HasRow (length rows.now) a × (n ≤ longest) }
     ensures { Satisfying rows.now n (PropertyOp.Strong a) result }
 {
+    let inside = starts_of(rows, a, n);
     Suffixes {
         neutral: inside,
         weak: inside.joined(word_at(rows, a, TOP_WORD)),
@@ -45,31 +46,18 @@ fn strong_from(rows: &[u64], n: usize, a: usize, inside: PositionSet) -> Suffixe
     }
 }
 
-pub fn strong_of(rows: &[u64], n: usize, a: usize) -> Suffixes
-    requires { HasRow (length rows.now) a × (n ≤ longest) }
-    ensures { Satisfying rows.now n (PropertyOp.Strong a) result }
-{
-    strong_from(rows, n, a, starts_of(rows, a, n))
-}
-
 // The longest prefix, followed by ⊤, decides; at the end of a record with no tail there is no prefix to ask.
-fn weak_from(rows: &[u64], n: usize, a: usize, inside: PositionSet) -> Suffixes
-    requires { HasRow (length rows.now) a × Is inside.bits (starts rows.now n a) × (n ≤ longest) }
+pub fn weak_of(rows: &[u64], n: usize, a: usize) -> Suffixes
+    requires { HasRow (length rows.now) a × (n ≤ longest) }
     ensures { Satisfying rows.now n (PropertyOp.Weak a) result }
 {
+    let inside = starts_of(rows, a, n);
     let open = inside.joined(word_at(rows, a, TOP_WORD));
     Suffixes {
         neutral: open.with(n),
         weak: open,
         strong: inside,
     }
-}
-
-pub fn weak_of(rows: &[u64], n: usize, a: usize) -> Suffixes
-    requires { HasRow (length rows.now) a × (n ≤ longest) }
-    ensures { Satisfying rows.now n (PropertyOp.Weak a) result }
-{
-    weak_from(rows, n, a, starts_of(rows, a, n))
 }
 
 // The bar of a word swaps the tails: not P with a ⊤ tail asks P with a ⊥ tail.
@@ -128,51 +116,16 @@ fn following(rows: &[u64], n: usize, a: usize, p: Suffixes) -> Suffixes
 }
 
 // The left side matches on the bar of the word: with a ⊥ tail it may end among letters ⊤, and P is then asked in the tail.
-fn implies_from(rows: &[u64], n: usize, a: usize, p: Suffixes, inside: Suffixes) -> Suffixes
-    requires { HasRow (length rows.now) a × (n ≤ longest) × Following rows.now n a p inside }
-    ensures { Sets (implies_bit rows.now n a (told p)) result }
-{
-    let onward = word_at(rows, a, TOP_WORD);
-    let holds = p.strong.has(n);
-    let strong = inside.strong;
-    let mut all = inside;
-    all.strong = strong.without(onward.only_if(!holds));
-    all
-}
-
 pub fn implies_of(rows: &[u64], n: usize, a: usize, p: Suffixes) -> Suffixes
     requires { HasRow (length rows.now) a × (n ≤ longest) }
     ensures { Sets (implies_bit rows.now n a (told p)) result }
 {
-    implies_from(rows, n, a, p, following(rows, n, a, p))
-}
-
-// The starts of the matches of row a, which are a letter's samples where these are known.
-fn known_starts(rows: &[u64], letters: &[u64], n: usize, a: usize) -> PositionSet
-    requires { HasRow (length rows.now) a × (n ≤ longest) × KnownLetters rows.now n letters.now }
-    ensures { Is result.bits (starts rows.now n a) }
-{
-    let letter = PositionSet { bits: letters[a] };
-    if letter.is_empty() {
-        return starts_of(rows, a, n);
-    }
-    letter
-}
-
-// What `following` tells, without a walk where a letter's samples are known: its start is its last letter.
-fn known_following(rows: &[u64], letters: &[u64], n: usize, a: usize, p: Suffixes) -> Suffixes
-    requires { HasRow (length rows.now) a × (n ≤ longest) × KnownLetters rows.now n letters.now }
-    ensures { Following rows.now n a p result }
-{
-    let letter = PositionSet { bits: letters[a] };
-    if letter.is_empty() {
-        return following(rows, n, a, p);
-    }
-    Suffixes {
-        neutral: letter.without(p.neutral).others(n),
-        weak: letter.without(p.weak).others(n),
-        strong: letter.without(p.strong).others(n),
-    }
+    let mut inside = following(rows, n, a, p);
+    let onward = word_at(rows, a, TOP_WORD);
+    let holds = p.strong.has(n);
+    let strong = inside.strong;
+    inside.strong = strong.without(onward.only_if(!holds));
+    inside
 }
 
 // P one position on; position n of a tail is followed by itself.
@@ -192,21 +145,6 @@ pub fn next_of(p: Suffixes, n: usize) -> Suffixes
         weak: next_in_tail(p.weak, n),
         strong: next_in_tail(p.strong, n),
     }
-}
-
-// P where the left side, which may be a letter whose samples are known, has matched.
-fn implied(rows: &[u64], letters: &[u64], n: usize, a: usize, p: usize) -> Suffixes
-    requires { HasRow (length rows.now) a × HasRow (length rows.now) p × (n ≤ longest) × KnownLetters rows.now n letters.now }
-    ensures { Satisfying rows.now n (PropertyOp.Implies a p) result }
-{
-    let second = three_at(rows, p);
-    implies_from(
-        rows,
-        n,
-        a,
-        second,
-        known_following(rows, letters, n, a, second),
-    )
 }
 
 fn until_of(rows: &[u64], n: usize, p: usize, q: usize) -> Suffixes
@@ -234,18 +172,17 @@ fn none_of() -> Suffixes
 }
 
 // The words of a property. A rewritten table has no clock node, and a derived operator is expanded before: no word is made for one.
-pub fn suffixes_of(rows: &[u64], letters: &[u64], n: usize, op: PropertyOp) -> Suffixes
-    requires ready_property { ready_property (length rows.now) op × (n ≤ longest) }
-    requires known_letters { KnownLetters rows.now n letters.now }
+pub fn suffixes_of(rows: &[u64], n: usize, op: PropertyOp) -> Suffixes
+    requires { ready_property (length rows.now) op × (n ≤ longest) }
     ensures { Satisfying rows.now n op result }
 {
     match op {
-        PropertyOp::Strong(a) => strong_from(rows, n, a, known_starts(rows, letters, n, a)),
-        PropertyOp::Weak(a) => weak_from(rows, n, a, known_starts(rows, letters, n, a)),
+        PropertyOp::Strong(a) => strong_of(rows, n, a),
+        PropertyOp::Weak(a) => weak_of(rows, n, a),
         PropertyOp::Negated(p) => not_of(three_at(rows, p), n),
         PropertyOp::AnyOf(p, q) => any_of(three_at(rows, p), three_at(rows, q)),
         PropertyOp::BothOf(p, q) => both_of(three_at(rows, p), three_at(rows, q)),
-        PropertyOp::Implies(a, p) => implied(rows, letters, n, a, p),
+        PropertyOp::Implies(a, p) => implies_of(rows, n, a, three_at(rows, p)),
         PropertyOp::Next(p) => next_of(three_at(rows, p), n),
         PropertyOp::Until(p, q) => until_of(rows, n, p, q),
         PropertyOp::Ticked(_, _) => none_of(),

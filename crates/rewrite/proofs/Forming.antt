@@ -106,11 +106,11 @@ module _ (s : List ℕ) (ok : Built s) (known : Known base (version s)) (clock :
         operand_of : {place limit v sort : ℕ} → Operand s k place limit v → place ≡ sort → ¬ (sort ≡ none) → Lower t at sort (ν v)
         operand_of {v = v} {sort = sort} o q z = operand_lower v sort z (o.below (λ y. z (sym q ∙ y))) (o.sorted (λ y. z (sym q ∙ y)) ∙ q) (λ _. upper)
 
-        operand_x : (sort : ℕ) → (row_of op).x ≡ sort → ¬ (sort ≡ none) → Lower t at sort (ν raw.x)
-        operand_x sort e = operand_of (ok.fit k h).x (ap (λ (o : ℕ). (row_of o).x) eo ∙ e)
+        operand_x_lem : (sort : ℕ) → (row_of op).x ≡ sort → ¬ (sort ≡ none) → Lower t at sort (ν raw.x)
+        operand_x_lem sort e = operand_of (ok.fit k h).x (ap (λ (o : ℕ). (row_of o).x) eo ∙ e)
 
-        operand_y : (sort : ℕ) → (row_of op).y ≡ sort → ¬ (sort ≡ none) → Lower t at sort (ν raw.y)
-        operand_y sort e = operand_of (ok.fit k h).y (ap (λ (o : ℕ). (row_of o).y) eo ∙ e)
+        operand_y_lem : (sort : ℕ) → (row_of op).y ≡ sort → ¬ (sort ≡ none) → Lower t at sort (ν raw.y)
+        operand_y_lem sort e = operand_of (ok.fit k h).y (ap (λ (o : ℕ). (row_of o).y) eo ∙ e)
 
     -- ---- any
 
@@ -128,16 +128,16 @@ module _ (s : List ℕ) (ok : Built s) (known : Known base (version s)) (clock :
         go (of_letter c e o) =
             let z = letter_is ν (clock k) at raw c e o in
             subst All (sym z)
-            (letter_right t versions at (ν c) (condition c e 16 o (omega arith)) (ν raw.x) (operand_x c e 16 o (omega arith) boolean refl (λ y. omega arith)) (sorts _ z))
+            (letter_right t versions at (ν c) (condition c e 16 o (omega arith)) (ν raw.x) (operand_x_lem c e 16 o (omega arith) boolean refl (λ y. omega arith)) (sorts _ z))
         go (of_next c e o) =
             let z = next_is ν (clock k) at raw c e o in
             subst All (sym z)
-            (next_right t versions at (ν c) (condition c e 38 o (omega arith)) (ν raw.x) (operand_x c e 38 o (omega arith) property refl (λ y. omega arith)) (sorts _ z))
+            (next_right t versions at (ν c) (condition c e 38 o (omega arith)) (ν raw.x) (operand_x_lem c e 38 o (omega arith) property refl (λ y. omega arith)) (sorts _ z))
         go (of_until c e o) =
             let z = until_is ν (clock k) at raw c e o in
             subst All (sym z)
-            (until_right t versions at (ν c) (condition c e 39 o (omega arith)) (ν raw.x) (ν raw.y) (operand_x c e 39 o (omega arith) property refl (λ y. omega arith))
-            (operand_y c e 39 o (omega arith) property refl (λ y. omega arith)) (sorts _ z))
+            (until_right t versions at (ν c) (condition c e 39 o (omega arith)) (ν raw.x) (ν raw.y) (operand_x_lem c e 39 o (omega arith) property refl (λ y. omega arith))
+            (operand_y_lem c e 39 o (omega arith) property refl (λ y. omega arith)) (sorts _ z))
 
   -- ---- the whole table
 

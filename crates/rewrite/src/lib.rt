@@ -3,8 +3,8 @@ ghost use Rattle.std.specs.Prelude.{◌≡◌, length, replicate};
 ghost use Rattle.rewrite.specs.Rewrites.{Rewrites};
 ghost use Rattle.rewrite.specs.Computed.{refused_rewriting, renumbered, Renumbers};
 
-use clocks::UNCLOCKED;
-use numbers::clocks_of;
+use clocks::{UNCLOCKED, clocks_of};
+use numbers::{counts_of, numbers_of};
 use refusal::{Verdict, wide};
 use writing::put_table;
 
@@ -42,13 +42,15 @@ pub fn rewrite_numbered(
         return refused(v.number, v.node);
     }
     let n = wide(b[5]);
-    let counts = clocks_of(b, n, clocks);
+    clocks_of(b, n, clocks);
+    let counts = counts_of(b, n, clocks);
     if 120 < counts.all {
         return refused(13, 0);
     }
     if out.len() < 4 * counts.all + 6 {
         return refused(15, 0);
     }
+    numbers_of(b, n, clocks, counts, numbers);
     put_table(b, n, clocks, numbers, counts, out);
     Rewriting {
         verdict: Verdict { number: 0, node: 0 },

@@ -101,10 +101,10 @@ unfolding filled
 filled-take s xs d ws k e = rw e (take_at (rows_of s xs k) (drop (share * k) d) (share * k) (length_rows s xs k))
 
 -- a turn of the loop over the nodes: one more row
-pub filled_step : (s xs d : List ℕ) (k : ℕ) (ws out : List ℕ) (node : Node) → ws ≡ filled s xs d k → node ≡ node_at s k
+pub filled-step : (s xs d : List ℕ) (k : ℕ) (ws out : List ℕ) (node : Node) → ws ≡ filled s xs d k → node ≡ node_at s k
     → out ≡ with_row ws k (node_row (take (share * k) ws) xs node) → out ≡ filled s xs d (k + 1)
 unfolding filled rows_of with_row
-filled_step s xs d k ws out node e en eo =
+filled-step s xs d k ws out node e en eo =
     let R : List ℕ = rows_of s xs k in
     let h1 : take (share * k) ws ≡ R = filled-take s xs d ws k e in
     let h2 : drop (share * k) ws ≡ drop (share * k) d = rw e (drop_at R (drop (share * k) d) (share * k) (length_rows s xs k)) in
@@ -114,7 +114,7 @@ filled_step s xs d k ws out node e en eo =
 
 -- ---- reading a row back: word i of row a
 
-pub past : (p q : List ℕ) (n i : ℕ) → length p ≡ n → get_or (p ++ q) (n + i) 0 ≡ get_or q i 0
+past : (p q : List ℕ) (n i : ℕ) → length p ≡ n → get_or (p ++ q) (n + i) 0 ≡ get_or q i 0
 past p q n i h = rw (← h) (get_or-append-add p q i 0)
 
 pub row_at : (s xs : List ℕ) (k a i : ℕ) → a < k → i < share → get_or (rows_of s xs k) (share * a + i) 0 ≡ node_word (rows_of s xs a) xs (node_at s a) i

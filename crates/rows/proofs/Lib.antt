@@ -1,3 +1,2 @@
--- Laws of the rows, and of what is known of them while they are laid in.
+-- Laws of the rows.
 pub mod Filling
-pub mod Keeping

@@ -8,7 +8,6 @@ use Rattle.nodes.specs.declared.BooleanOp.{BooleanOp}
 use Rattle.nodes.specs.declared.PropertyOp.{PropertyOp}
 use Rattle.cells.specs.Shares.{share, longest}
 use Rattle.cells.specs.Bits.{boolean_bit, property_bit}
-use Rattle.cells.specs.Letters.{kind_of}
 use Rattle.cells.specs.Ready.{ready_boolean, ready_sequence, ready_property}
 use Rattle.cells.specs.Stored.{tab, set64}
 use Rattle.properties.specs.declared.Suffixes.{Suffixes}
@@ -39,12 +38,6 @@ node_word rows xs (Property op) i = property_word rows (length xs) op i
 unfoldable pub node_row : List ℕ → List ℕ → Node → List ℕ
 node_row rows xs node = tab (node_word rows xs node) share
 
--- the kind of a node's row, by the kinds of the rows below
-abbrev pub node_kind : List ℕ → Node → ℕ
-node_kind kinds (Boolean op) = 0
-node_kind kinds (Sequence op) = kind_of kinds op
-node_kind kinds (Property op) = 0
-
 -- the rows of the nodes below k
 unfoldable pub rows_of : List ℕ → List ℕ → ℕ → List ℕ
 rows_of s xs zero = []
@@ -60,9 +53,8 @@ Ready w (Boolean op) = ready_boolean w share op
 Ready w (Sequence op) = ready_sequence w op
 Ready w (Property op) = ready_property w op
 
--- what `fill` asks: the bytes of m nodes, at most 120, each with its operands below it, their shares, and a record that is not too long
+-- what `fill` asks: the bytes of m nodes, each with its operands below it, their shares, and a record that is not too long
 pub record Fits (s xs d : List ℕ) (m : ℕ) : Type 0 where
-  pub few : m ≤ 120
   pub bytes : 4 * m + 6 ≤ length s
   pub ready : (k : ℕ) → k < m → Ready (share * k) (node_at s k)
   pub short : length xs ≤ longest

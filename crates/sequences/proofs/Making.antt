@@ -15,6 +15,7 @@ use Rattle.positions.specs.Member.{has, Is}
 use Rattle.positions.proofs.Laws.{has_none}
 use Rattle.nodes.specs.declared.SequenceOp.{SequenceOp}
 use Rattle.nodes.specs.declared.SequenceOp.TheVariants.{Letter, Either}
+use Rattle.matches.specs.declared.Found.{Found}
 use Rattle.cells.specs.Shares.{share, top_word, longest, word_in, HasRow}
 use Rattle.cells.specs.Bits.{sequence_bit, goes_on, starts_open, top_bit}
 use Rattle.cells.specs.Ready.{ready_sequence}
@@ -153,15 +154,15 @@ down_none {d = d} {k = k} {n = n} op tops l h =
 
 module _ {d ws : List ℕ} {k n i tops : ℕ} {op : SequenceOp} (u : Down d k n op i tops ws) where
   -- word h is made of what is found from h, and its start is decided
-  pub down_one : (h tops' ends : ℕ) (goes : Bool) → i ≡ h + 1 → ends < 2 ^ 64 → Finds (take (share * k) ws) n op h ends goes
-      → Is tops' (λ j. has tops j || (goes && eqb j h)) → Down d k n op h tops' (set ws (share * k + h) ends)
-  down_one h tops' ends goes e small finds added =
+  pub down_one : (h tops' : ℕ) (r : Found) → i ≡ h + 1 → r.ends.bits < 2 ^ 64 → Finds (take (share * k) ws) n op h r
+      → Is tops' (λ j. has tops j || (r.on && eqb j h)) → Down d k n op h tops' (set ws (share * k + h) r.ends.bits)
+  down_one h tops' r e small finds added =
       let l : h ≤ n = omega (arith, u.upto) in
-      let w = stored_down _ d _ _ _ h _ ws u.made.words (small, rw (← u.its.rows) finds.ends_are) (omega (arith, u.its.within, u.its.short)) (omega arith) e in
+      let w = stored_down _ d _ _ _ h _ ws u.made.words (small, rw (← u.its.rows) finds.ends) (omega (arith, u.its.within, u.its.short)) (omega arith) e in
       record {
         its = stored_lent u.its.within u.its.short w;
         upto = omega arith;
-        made = record { words = w; decided = λ j. added j ∙ ap (λ b. b || (goes && eqb j h)) (u.made.decided j) ∙ decided_more (on (take (share * k) d) n op) h i n j goes l e (rw (← u.its.rows) finds.goes_on_lem) };
+        made = record { words = w; decided = λ j. added j ∙ ap (λ b. b || (r.on && eqb j h)) (u.made.decided j) ∙ decided_more (on (take (share * k) d) n op) h i n j r.on l e (rw (← u.its.rows) finds.on) };
       }
 
   pub down_all : i ≡ 0 → Made d k n op 0 tops ws
@@ -171,44 +172,45 @@ module _ {d ws : List ℕ} {k n i tops : ℕ} {op : SequenceOp} (u : Down d k n 
   pub own-long : share ≤ length (take (length ws - share * k) (drop (share * k) ws))
   own-long = rw (length-take, length-drop) (omega (arith, u.its.long, u.its.within))
 
-  pub own-made : (h : ℕ) → i ≡ h + 1 → (j : ℕ) → h < j → j ≤ n
+  pub own_made : (h : ℕ) → i ≡ h + 1 → (j : ℕ) → h < j → j ≤ n
       → Is (get_or (take (length ws - share * k) (drop (share * k) ws)) j 0) (sequence_bit (take (share * k) ws) n op j)
-  own-made h e j a b =
+  own_made h e j a b =
       rw (get_or-take (length ws - share * k) (drop (share * k) ws) j 0 (omega (arith, u.its.long, u.its.within, u.its.short)), get_or-drop (share * k) ws j 0, u.its.rows)
       (u.made.words.there j (omega arith) (omega arith)).1
 
 -- ---- the finished row: its last word is written, and the words between are cleared
 
-pub all_made : {d ws : List ℕ} {k n tops : ℕ} {op : SequenceOp} (opened cut t : ℕ) (out : List ℕ) → HasRow (length ws) k → n ≤ longest → Made d k n op 0 tops ws → t < 2 ^ 64
-    → Is opened (starts_open (take (share * k) ws) n op) → Is cut (λ j. has opened j && leb j n) → Is t (λ j. has tops j || has cut j)
-    → Stored None (set ws (share * k + top_word) t) (share * k) (n + 1) top_word out → out ≡ with_row d k (tab (sequence_word (take (share * k) d) n op) share)
-all_made {d = d} {ws = ws} {k = k} {n = n} {op = op} opened cut t out within short m small opens cuts joined c =
-    with_row_is d out k (sequence_word (take (share * k) d) n op) l.within (c.long ∙ length-set ws (share * k + top_word) t ∙ l.long) own others
-  where
-    l : Lent d k n ws
-    l = stored_lent (rw (← m.words.long) within) short m.words
+module _ {d ws : List ℕ} {k n tops : ℕ} {op : SequenceOp} (l : Lent d k n ws) (m : Made d k n op 0 tops ws) where
+  pub long_made : (from to t : ℕ) (out : List ℕ) → Stored None (set ws (share * k + top_word) t) (share * k) from to out → length out ≡ length d
+  long_made from to t out c = c.long ∙ length-set ws (share * k + top_word) t ∙ l.long
 
-    there : Is opened (starts_open (take (share * k) d) n op)
-    there = rw (← l.rows) opens
+  pub all_made : (opened cut t : ℕ) (out : List ℕ) → t < 2 ^ 64 → Is opened (starts_open (take (share * k) ws) n op) → Is cut (λ j. has opened j && leb j n)
+      → Is t (λ j. has tops j || has cut j) → Stored None (set ws (share * k + top_word) t) (share * k) (n + 1) top_word out
+      → out ≡ with_row d k (tab (sequence_word (take (share * k) d) n op) share)
+  all_made opened cut t out small opens cuts joined c =
+      with_row_is d out k (sequence_word (take (share * k) d) n op) l.within (long_made _ _ t out c) own others
+    where
+      there : Is opened (starts_open (take (share * k) d) n op)
+      there = rw (← l.rows) opens
 
-    last : Is t (top_bit (take (share * k) d) n op)
-    last j =
-        joined j
-        ∙ ap₂ ◌||◌ (m.decided j) (cuts j ∙ ap (λ b. b && leb j n) (there j))
-        ∙ decided_all (on (take (share * k) d) n op) (starts_open (take (share * k) d) n op) 0 n j refl
+      last : Is t (top_bit (take (share * k) d) n op)
+      last j =
+          joined j
+          ∙ ap₂ ◌||◌ (m.decided j) (cuts j ∙ ap (λ b. b && leb j n) (there j))
+          ∙ decided_all (on (take (share * k) d) n op) (starts_open (take (share * k) d) n op) 0 n j refl
 
-    others : (j : ℕ) → (j < share * k) ⊎ (share * k + share ≤ j) → get_or out j 0 ≡ get_or d j 0
-    others j u =
-        c.stay j (⊎_elim (λ (g : j < share * k). inl (omega arith)) (λ (g : share * k + share ≤ j). inr (omega arith)) u)
-        ∙ get_or-set_other ws (share * k + top_word) j t 0 (λ z. ⊎_elim (λ (g : j < share * k). omega arith) (λ (g : share * k + share ≤ j). omega arith) u)
-        ∙ m.words.stay j (⊎_elim (λ (g : j < share * k). inl (omega arith)) (λ (g : share * k + share ≤ j). inr (omega arith)) u)
+      others : (j : ℕ) → (j < share * k) ⊎ (share * k + share ≤ j) → get_or out j 0 ≡ get_or d j 0
+      others j u =
+          c.stay j (⊎_elim (λ (g : j < share * k). inl (omega arith)) (λ (g : share * k + share ≤ j). inr (omega arith)) u)
+          ∙ get_or-set_other ws (share * k + top_word) j t 0 (λ z. ⊎_elim (λ (g : j < share * k). omega arith) (λ (g : share * k + share ≤ j). omega arith) u)
+          ∙ m.words.stay j (⊎_elim (λ (g : j < share * k). inl (omega arith)) (λ (g : share * k + share ≤ j). inr (omega arith)) u)
 
-    own : (j : ℕ) → j < share → get_or out (share * k + j) 0 ≡ sequence_word (take (share * k) d) n op j
-    own j u =
-        ⊎_elim
-        (λ (v : n < j). rw (lt-leb j n v) (⊎_elim (λ (q : j ≡ top_word). rw (q, c.stay (share * k + top_word) (inr (omega arith)), get_or-set_same ws (share * k + top_word) t 0 (omega (arith, l.long))) (word_is t _ small last)) (λ (q : j < top_word). rw (ne_eqb j top_word (λ z. omega arith)) (c.there j (omega arith) q)) (eq-or-lt_of_le (le_of_suc-le-suc u))))
-        (λ (v : j ≤ n). let w = m.words.there j (omega arith) (omega arith) in rw (le-leb j n v) (c.stay (share * k + j) (inl (omega arith)) ∙ get_or-set_other ws (share * k + top_word) (share * k + j) t 0 (λ z. omega arith) ∙ word_is (get_or ws (share * k + j) 0) _ w.0 w.1))
-        (side n j)
+      own : (j : ℕ) → j < share → get_or out (share * k + j) 0 ≡ sequence_word (take (share * k) d) n op j
+      own j u =
+          ⊎_elim
+          (λ (v : n < j). rw (lt-leb j n v) (⊎_elim (λ (q : j ≡ top_word). rw (q, c.stay (share * k + top_word) (inr (omega arith)), get_or-set_same ws (share * k + top_word) t 0 (omega (arith, l.long))) (word_is t _ small last)) (λ (q : j < top_word). rw (ne_eqb j top_word (λ z. omega arith)) (c.there j (omega arith) q)) (eq-or-lt_of_le (le_of_suc-le-suc u))))
+          (λ (v : j ≤ n). let w = m.words.there j (omega arith) (omega arith) in rw (le-leb j n v) (c.stay (share * k + j) (inl (omega arith)) ∙ get_or-set_other ws (share * k + top_word) (share * k + j) t 0 (λ z. omega arith) ∙ word_is (get_or ws (share * k + j) 0) _ w.0 w.1))
+          (side n j)
 
 -- the row of an operator that has no match and never goes on: no word has a place
 pub none_made : {d ws : List ℕ} {k n tops : ℕ} (op : SequenceOp) → ((i j : ℕ) → sequence_bit (take (share * k) d) n op i j ≡ false)

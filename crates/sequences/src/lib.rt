@@ -1,15 +1,13 @@
 // A sequence's row in the workspace: its words 0 to n, and word 64. The kind is chosen once, and each kind has its loop, which answers the starts from which
 // the match goes on.
-ghost use Rattle.std.specs.Prelude.{◌≡◌, List, ℕ, ◌*◌, ◌≤◌, length, take};
+ghost use Rattle.std.specs.Prelude.{◌≡◌, ◌*◌, ◌≤◌, length, take};
 ghost use Rattle.cells.specs.Shares.{share, longest, HasRow};
 ghost use Rattle.cells.specs.Ready.{ready_sequence};
 ghost use Rattle.cells.specs.Stored.{tab, with_row};
 ghost use Rattle.sequences.specs.Made.{sequence_word, Made, NoneMade};
 
 use cells::{SHARE, TOP_WORD, all_samples, clear, word_at};
-use matches::{
-    fused_from, leads_forward, longer_words, nothing_kept, open_starts, repeat_from, then_from,
-};
+use matches::{fused_from, leads_forward, longer_words, open_starts, repeat_from, then_from};
 use nodes::SequenceOp;
 use positions::PositionSet;
 
@@ -57,26 +55,22 @@ fn put_empty(ws: &mut [u64], k: usize, a: usize, n: usize) -> PositionSet
     PositionSet::empty()
 }
 
-// From the last start down, so that a start takes over the ends of the one above it where its own first ends cover those of that one.
 fn put_then(ws: &mut [u64], k: usize, a: usize, b: usize, n: usize) -> PositionSet
     requires { HasRow (length ws.old) k × HasRow (share * k) a × HasRow (share * k) b × (n ≤ longest) }
     ensures { Made ws.old k n (SequenceOp.Then a b) 0 result.bits ws.new }
 {
     let at = SHARE * k;
     let mut tops = PositionSet::empty();
-    let mut kept = nothing_kept();
     let mut i = n + 1;
     while 0 < i {
         i -= 1;
-        let found = then_from(&ws[..at], n, a, b, i, kept);
+        let found = then_from(&ws[..at], n, a, b, i);
         tops = tops.with_if(i, found.on);
-        kept = found.kept;
         ws[at + i] = found.ends.bits;
     }
     tops
 }
 
-// The same of the last letters of the first match.
 fn put_fused(ws: &mut [u64], k: usize, a: usize, b: usize, n: usize) -> PositionSet
     requires { HasRow (length ws.old) k × HasRow (share * k) a × HasRow (share * k) b × (n ≤ longest) }
     ensures { Made ws.old k n (SequenceOp.Fused a b) 0 result.bits ws.new }
@@ -85,19 +79,17 @@ fn put_fused(ws: &mut [u64], k: usize, a: usize, b: usize, n: usize) -> Position
     let mut second = [0; 64];
     longer_words(&ws[..at], b, n, &mut second);
     let mut tops = PositionSet::empty();
-    let mut kept = nothing_kept();
     let mut i = n + 1;
     while 0 < i {
         i -= 1;
-        let found = fused_from(&ws[..at], &second, n, a, b, i, kept);
+        let found = fused_from(&ws[..at], &second, n, a, b, i);
         tops = tops.with_if(i, found.on);
-        kept = found.kept;
         ws[at + i] = found.ends.bits;
     }
     tops
 }
 
-// From the last start down, so that a repetition finds its own words above too.
+// From the last start down, so that a repetition finds its own words above.
 fn put_repeat(ws: &mut [u64], k: usize, a: usize, n: usize) -> PositionSet
     requires { HasRow (length ws.old) k × HasRow (share * k) a × (n ≤ longest) }
     ensures { Made ws.old k n (SequenceOp.Repeat a) 0 result.bits ws.new }
@@ -105,14 +97,12 @@ fn put_repeat(ws: &mut [u64], k: usize, a: usize, n: usize) -> PositionSet
     let at = SHARE * k;
     let forward = leads_forward(&ws[..at], a, n);
     let mut tops = PositionSet::empty();
-    let mut kept = nothing_kept();
     let mut i = n + 1;
     while 0 < i {
         i -= 1;
         let all = &ws[..];
-        let found = repeat_from(&all[..at], &all[at..], n, a, i, forward, kept);
+        let found = repeat_from(&all[..at], &all[at..], n, a, i, forward);
         tops = tops.with_if(i, found.on);
-        kept = found.kept;
         ws[at + i] = found.ends.bits;
     }
     tops
@@ -127,8 +117,7 @@ fn put_none(ws: &mut [u64], k: usize, n: usize) -> PositionSet
     PositionSet::empty()
 }
 
-// The words up to n. Answers the starts from which a match goes on into the letters ⊤ after a part inside the record.
-pub fn put_words(ws: &mut [u64], k: usize, op: SequenceOp, n: usize) -> PositionSet
+fn put_words(ws: &mut [u64], k: usize, op: SequenceOp, n: usize) -> PositionSet
     requires { HasRow (length ws.old) k × ready_sequence (share * k) op × (n ≤ longest) }
     ensures { Made ws.old k n op 0 result.bits ws.new }
 {
@@ -144,22 +133,14 @@ pub fn put_words(ws: &mut [u64], k: usize, op: SequenceOp, n: usize) -> Position
     }
 }
 
-// The rest of a row whose words up to n are made: word 64, by `tops`, the starts from which a match goes on, and 0 between.
-pub fn close_row(ws: &mut [u64], k: usize, op: SequenceOp, n: usize, tops: PositionSet)
-    requires { HasRow (length ws.old) k × ready_sequence (share * k) op × (n ≤ longest) }
-    ensures { (d : List ℕ) → Made d k n op 0 tops.bits ws.old → ws.new ≡ with_row d k (tab (sequence_word (take (share * k) d) n op) share) }
-{
-    let at = SHARE * k;
-    let open = open_starts(&ws[..at], n, op);
-    ws[at + TOP_WORD] = tops.joined(open.cut(n)).bits;
-    clear(ws, at, n + 1, TOP_WORD);
-}
-
 // A sequence's row: its words up to n, then word 64, and 0 between.
 pub fn put_sequence(ws: &mut [u64], k: usize, op: SequenceOp, n: usize)
     requires { HasRow (length ws.old) k × ready_sequence (share * k) op × (n ≤ longest) }
     ensures { ws.new ≡ with_row ws.old k (tab (sequence_word (take (share * k) ws.old) n op) share) }
 {
+    let at = SHARE * k;
     let tops = put_words(ws, k, op, n);
-    close_row(ws, k, op, n, tops);
+    let open = open_starts(&ws[..at], n, op);
+    ws[at + TOP_WORD] = tops.joined(open.cut(n)).bits;
+    clear(ws, at, n + 1, TOP_WORD);
 }

@@ -14,7 +14,8 @@ use Rattle.meaning.specs.Words.{top}
 use Rattle.meaning.specs.Pairs.{Atom, reading}
 use Rattle.meaning.proofs.Eval.{match_b, plus_b, top_b}
 use Rattle.derived.specs.Derived.{times, range, any, later, delay, goto, nonconsecutive}
-use Rattle.hollows.specs.Flags.{Tops, flags, then_tops, fused_tops, either_tops, range_tops, later_tops, delay_tops}
+use Rattle.hollows.specs.declared.Tops.{Tops}
+use Rattle.hollows.specs.Flags.{flags, then_tops, fused_tops, either_tops, range_tops, later_tops, delay_tops}
 
 -- whether no letter matches, and whether some k letters ⊤ do, k at least 1
 abbrev pub Tested : Clock Atom → Seq Atom → Tops

@@ -18,12 +18,13 @@ use Rattle.nodes.specs.declared.Node.{Node}
 use Rattle.nodes.specs.declared.Node.TheVariants.{Boolean, Sequence, Property}
 use Rattle.nodes.specs.declared.PropertyOp.TheVariants.{Strong, Weak, Negated, AnyOf, BothOf, Implies, Next, Until, Ticked, Defined}
 use Rattle.nodes.specs.declared.DerivedProperty.TheVariants.{ImpliesNext, Followed, FollowedNext, Always, Eventually, StrongUntil, StrongNext}
+use Rattle.hollows.specs.declared.Tops.{Tops}
 use Rattle.nodes.specs.declared.Raw.{Raw}
 use Rattle.nodes.specs.Operators.{sequence, bytes_of, derived_sequence_bytes, derived_property_bytes, sequence_bytes, property_bytes}
 use Rattle.nodes.specs.Nodes.{raw_at, sort_at, node_at, WellFormed}
 use Rattle.table.specs.Trees.{SequenceAt, s_one, s_cat, s_fuse, s_alt, s_empty, s_plus, s_clock, s_repeated, s_delayed, s_goto, s_nonconsecutive, PropertyAt, p_strong, p_weak, p_neg, p_either, p_both, p_imp, p_next, p_until, p_clock, p_implies_next, p_followed, p_followed_next, p_always, p_eventually, p_strong_until, p_strong_next}
 use Rattle.table.specs.Check.{Asks, by_strong, by_weak, by_implies, by_implies_next, by_followed, by_followed_next}
-use Rattle.hollows.specs.Flags.{Tops, flags, tops_at, derived_tops, sequence_tops, node_tops, tops_below, hollow_derived, hollow_property, hollow_node, hollow}
+use Rattle.hollows.specs.Flags.{flags, tops_at, derived_tops, sequence_tops, node_tops, tops_below, hollow_derived, hollow_property, hollow_node, hollow}
 use Rattle.nodes.proofs.Coded.{coded_as}
 use Rattle.nodes.proofs.Shapes.{down}
 use Rattle.table.proofs.Repeats.{Tested, then_same, tested_range, tested_delay, tested_goto, tested_nonconsecutive, tested_one, tested_next}

@@ -1,34 +1,34 @@
-// Checking a table: refusals 1 to 9, the first that applies, for any bytes. The tests of its nodes are those of `faults` and `hollows`; what the nodes
-// stand for, and that the tests say what the page says, is stated and proved here.
+// Checking a table: refusals 1 to 9, the first that applies, for any bytes. The tests of its nodes are those of `faults`; what the nodes stand for,
+// and that the tests say what the page says, is stated and proved here.
 ghost use Rattle.std.specs.Prelude.{◌≡◌, ◌+◌, ◌*◌, ◌≤◌, length};
-ghost use Rattle.refusal.specs.Heading.{version};
 ghost use Rattle.refusal.specs.Computed.{first_case};
 ghost use Rattle.table.specs.Check.{Checks, ChecksTo};
 ghost use Rattle.table.specs.Computed.{node_cases};
 
-use lowest::lowest_of;
+use faults::formed::first_unfit;
+use faults::placed::first_astray;
+use hollows::first_hollow;
 use nodes::operators::{BASE, BOOLEAN};
 use nodes::sort_at;
 use refusal::{Verdict, wide};
 
 // Refusals 6 to 9 of the n nodes.
 fn check_nodes(b: &[u8], n: usize) -> Verdict
-    requires { (1 ≤ n) × (n ≤ 120) × (4 * n + 6 ≤ length b.now) × (1 ≤ version b.now) }
+    requires { (1 ≤ n) × (n ≤ 120) × (4 * n + 6 ≤ length b.now) }
     ensures { result ≡ first_case (node_cases b.now n) }
 {
-    let lowest = lowest_of(b, n);
-    let u = lowest.unfit;
+    let u = first_unfit(b, n);
     if u < n {
         return Verdict { number: 6, node: u };
     }
-    let a = lowest.astray;
+    let a = first_astray(b, n);
     if a < n {
         return Verdict { number: 7, node: a };
     }
     if sort_at(b, n - 1) == BOOLEAN {
         return Verdict { number: 8, node: 0 };
     }
-    let h = lowest.hollow;
+    let h = first_hollow(b, n);
     if h < n {
         return Verdict { number: 9, node: h };
     }

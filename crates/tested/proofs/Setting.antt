@@ -55,20 +55,20 @@ implies_as rows n a b u v x y z ea eu ev ez k = ez k ∙ (λ i. implies_tested r
 
 module _ (v : Raw) (node : Node) (dec : Decodes v node) where
   -- what is said of the decoded node is said of the one that the bytes stand for
-  kind_of_lem : (Q : Node → Type 0) (kind : Node) → node ≡ kind → Q kind → Q (node_of v)
-  kind_of_lem Q kind e q = subst Q (sym e ∙ dec.made) q
+  kind_of : (Q : Node → Type 0) (kind : Node) → node ≡ kind → Q kind → Q (node_of v)
+  kind_of Q kind e q = subst Q (sym e ∙ dec.made) q
 
 pub boolean_kind : (rows : List ℕ) (n : ℕ) (at : Standing) (X Y : ℕ → Bool) (z : ℕ) (v : Raw) (node : Node) (o : BooleanOp) → Decodes v node → node ≡ Boolean o → Is z (λ k. false)
     → Is z (node_tested rows n at X Y (node_of v))
-boolean_kind rows n at X Y z v node o dec e h = kind_of_lem v node dec (λ u. Is z (node_tested rows n at X Y u)) (Boolean o) e h
+boolean_kind rows n at X Y z v node o dec e h = kind_of v node dec (λ u. Is z (node_tested rows n at X Y u)) (Boolean o) e h
 
-pub sequence-kind : (rows : List ℕ) (n : ℕ) (at : Standing) (X Y : ℕ → Bool) (z : ℕ) (v : Raw) (node : Node) (o : SequenceOp) → Decodes v node → node ≡ Sequence o → Is z (letter_matches rows at o)
+pub sequence_kind : (rows : List ℕ) (n : ℕ) (at : Standing) (X Y : ℕ → Bool) (z : ℕ) (v : Raw) (node : Node) (o : SequenceOp) → Decodes v node → node ≡ Sequence o → Is z (letter_matches rows at o)
     → Is z (node_tested rows n at X Y (node_of v))
-sequence-kind rows n at X Y z v node o dec e h = kind_of_lem v node dec (λ u. Is z (node_tested rows n at X Y u)) (Sequence o) e h
+sequence_kind rows n at X Y z v node o dec e h = kind_of v node dec (λ u. Is z (node_tested rows n at X Y u)) (Sequence o) e h
 
-pub property-kind : (rows : List ℕ) (n : ℕ) (at : Standing) (X Y : ℕ → Bool) (z : ℕ) (v : Raw) (node : Node) (o : PropertyOp) → Decodes v node → node ≡ Property o → Is z (property_tested rows n at X Y o)
+pub property_kind : (rows : List ℕ) (n : ℕ) (at : Standing) (X Y : ℕ → Bool) (z : ℕ) (v : Raw) (node : Node) (o : PropertyOp) → Decodes v node → node ≡ Property o → Is z (property_tested rows n at X Y o)
     → Is z (node_tested rows n at X Y (node_of v))
-property-kind rows n at X Y z v node o dec e h = kind_of_lem v node dec (λ u. Is z (node_tested rows n at X Y u)) (Property o) e h
+property_kind rows n at X Y z v node o dec e h = kind_of v node dec (λ u. Is z (node_tested rows n at X Y u)) (Property o) e h
 
 -- and the other way round, of what it asks for
 pub sequence_ready : (w : ℕ) (at : Standing) (v : Raw) (node : Node) (o : SequenceOp) → Decodes v node → node ≡ Sequence o → node_there w at (node_of v) → sequence_there w at o
@@ -99,8 +99,8 @@ until_as rows n T E t e z a b a' b' et ee ea eb ez k = ez k ∙ (λ i. until_tes
 pub walk_made : (rows : List ℕ) (n a r p z : ℕ) (t : Bool) → t ≡ not (some (has r) 0 64) → t ≡ true → Is z (starts_into rows n a (has p)) → Is z (implies_tested rows n a (has r) (has p))
 walk_made rows n a r p z t et e h k = rw (sym (not-not (some (has r) 0 64)) ∙ ap not (sym et ∙ e)) (h k)
 
-pub letter-made : (rows : List ℕ) (n a r p z : ℕ) (t : Bool) → t ≡ not (some (has r) 0 64) → t ≡ false → Is z (λ k. has r k && has p k) → Is z (implies_tested rows n a (has r) (has p))
-letter-made rows n a r p z t et e h k = rw (sym (not-not (some (has r) 0 64)) ∙ ap not (sym et ∙ e)) (h k)
+pub letter_made : (rows : List ℕ) (n a r p z : ℕ) (t : Bool) → t ≡ not (some (has r) 0 64) → t ≡ false → Is z (λ k. has r k && has p k) → Is z (implies_tested rows n a (has r) (has p))
+letter_made rows n a r p z t et e h k = rw (sym (not-not (some (has r) 0 64)) ∙ ap not (sym et ∙ e)) (h k)
 
 -- ---- the array of the sets, node by node
 

@@ -6,10 +6,10 @@ use Rattle.positions.specs.Member.{has, Is}
 use Rattle.cells.specs.Bits.{until_bit}
 use Rattle.ticking.specs.Ticks.{idle, tick_run, first_tick, second_tick}
 
-pub run-made : (t n : ℕ) (last : Bool) (h g i a b r : ℕ) → Is i (idle (has t) n) → Is a (λ k. has h k || has i k) → Is b (λ k. has g k && has t k)
+pub run_made : (t n : ℕ) (last : Bool) (h g i a b r : ℕ) → Is i (idle (has t) n) → Is a (λ k. has h k || has i k) → Is b (λ k. has g k && has t k)
     → Is r (until_bit (has a) (has b) last n) → Is r (tick_run (has t) n last (has h) (has g))
 unfolding tick_run
-run-made t n last h g i a b r ei ea eb e k =
+run_made t n last h g i a b r ei ea eb e k =
     e k ∙ ap₂ (λ f g. until_bit f g last n k) (fun_ext (λ k. ea k ∙ ap (λ z. has h k || z) (ei k))) (fun_ext eb)
 
 -- what a run is where no tick is left is known by its parts

@@ -1,4 +1,2 @@
--- The bytes of a form that are no nodes of it are booleans,
-pub mod Lowness
--- and a node is written after its operands.
-pub mod Wholes
+-- Writing a piece after its operands.
+pub mod Writing

@@ -1,2 +1,2 @@
--- What writing out a node asks.
-pub mod Ready
+-- What writing a piece leaves.
+pub mod Puts

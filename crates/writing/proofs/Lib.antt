@@ -1,5 +1,4 @@
 -- How long the blocks and the new table are.
 pub mod Lengths
--- The code: the new numbers, a node's block and the two passes.
-pub mod Giving
+-- The code: a node's block and the two passes.
 pub mod Passes

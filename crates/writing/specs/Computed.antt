@@ -1,10 +1,22 @@
 -- What the parts of the code ask of each other, and what each gives to a pass. Assumes nothing.
-use Rattle.std.specs.Prelude.{◌≡◌, true, false, cond, List, [], ℕ, ◌+◌, ◌*◌, ◌<◌, ◌≤◌, length, get_or}
+use Rattle.std.specs.Prelude.{◌≡◌, Bool, true, false, cond, List, [], ℕ, ◌+◌, ◌*◌, ◌≤◌, length}
 use Rattle.refusal.specs.Heading.{count}
 use Rattle.nodes.specs.declared.Raw.{Raw}
 use Rattle.nodes.specs.NodeClock.{Ref}
-use Rattle.numbers.specs.Numbers.{is_boolean, is_other, taken, number_of}
-use Rattle.writing.specs.Tables.{block_of}
+use Rattle.clocks.specs.Computed.{clock_by}
+use Rattle.numbers.specs.Numbers.{is_boolean, is_other, length_of, taken, start_of}
+use Rattle.writing.specs.Tables.{block_of, laid}
+
+-- ---- the two passes: of the booleans and of the others
+
+unfoldable pub of_pass : List ℕ → Bool → ℕ → Bool
+of_pass s true k = is_boolean s k
+of_pass s false k = is_other s k
+
+-- the number of the first node of a pass
+unfoldable pub pass_start : List ℕ → (ℕ → Ref) → Bool → ℕ
+pass_start s clock true = 0
+pass_start s clock false = taken s clock (is_boolean s) (count s)
 
 -- ---- room
 
@@ -12,30 +24,26 @@ use Rattle.writing.specs.Tables.{block_of}
 abbrev pub TableFits : ℕ → List ℕ → Type 0
 TableFits m d = (m ≤ 120) × (4 * m + 6 ≤ length d)
 
--- ---- the new numbers that are given: those of the booleans below i and of the others below k
+-- ---- of a table s with an array of clocks
 
-pub record Given (s : List ℕ) (clock : ℕ → Ref) (i k : ℕ) (numbers : List ℕ) : Type 0 where
-  pub size : length numbers ≡ 121
-  pub booleans : (j : ℕ) → j < i → is_boolean s j ≡ true → get_or numbers j 0 ≡ number_of s clock j
-  pub others : (j : ℕ) → j < k → is_boolean s j ≡ false → get_or numbers j 0 ≡ number_of s clock j
+module _ (s clocks : List ℕ) where
+  -- what node k gives to a pass, and how many nodes that is; what all nodes below k give to it
+  abbrev pub given_by : Bool → ℕ → List Raw
+  given_by pass k = cond (of_pass s pass k) (block_of s (clock_by clocks) k) []
 
--- ---- the two passes: the nodes below k have had theirs, and the pass goes on at node `at`
+  abbrev pub count_by : Bool → ℕ → ℕ
+  count_by pass k = cond (of_pass s pass k) (length_of s (clock_by clocks) k) 0
 
-pub record BooleansTo (s : List ℕ) (clock : ℕ → Ref) (k at : ℕ) (numbers : List ℕ) : Type 0 where
-  pub given : Given s clock k 0 numbers
-  pub next : at ≡ taken s clock (is_boolean s) k
+  abbrev pub given_below : Bool → ℕ → List Raw
+  given_below pass k = laid s (clock_by clocks) (of_pass s pass) k
 
-pub record OthersTo (s : List ℕ) (clock : ℕ → Ref) (k at : ℕ) (numbers : List ℕ) : Type 0 where
-  pub given : Given s clock (count s) k numbers
-  pub next : at ≡ taken s clock (is_boolean s) (count s) + taken s clock (is_other s) k
+  -- a pass goes on at node `at`, where the nodes below k have had theirs
+  abbrev pub PassAt : Bool → ℕ → ℕ → Type 0
+  PassAt pass k at = at ≡ pass_start s (clock_by clocks) pass + taken s (clock_by clocks) (of_pass s pass) k
 
--- what node k gives to each
-abbrev pub boolean_of : List ℕ → (ℕ → Ref) → ℕ → List Raw
-boolean_of s clock k = cond (is_boolean s k) (block_of s clock k) []
-
-abbrev pub other_of : List ℕ → (ℕ → Ref) → ℕ → List Raw
-other_of s clock k = cond (is_other s k) (block_of s clock k) []
-
--- booleans are the same under any clocks
-abbrev pub Any : ((ℕ → Ref) → Type 0) → Type 0
-Any P = (clock : ℕ → Ref) → P clock
+  -- the block of node k goes to node `at` on, and there is room for it in d
+  abbrev pub BlockFits : ℕ → ℕ → List ℕ → Type 0
+  BlockFits k at d =
+      (at ≡ start_of s (clock_by clocks) k)
+      × (at + length_of s (clock_by clocks) k ≤ 120)
+      × (4 * (at + length_of s (clock_by clocks) k) + 6 ≤ length d)

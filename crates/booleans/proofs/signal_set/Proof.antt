@@ -1,25 +1,33 @@
--- `booleans::signal_set` meets its contract: the loop has gathered the samples from k on. Assumes nothing.
-use Prim.Native.Nat.{◌≤◌}
+-- `booleans::signal_set` meets its contract: the loop has taken the samples below k that have the signal. Assumes nothing.
+use mathlib.Core.Path.{◌≡◌}
+use mathlib.Core.Bool.{◌&&◌}
+use Prim.Native.Nat.{◌≤◌, ◌-◌}
 use native.Mathlib.Omega.{arith}
-use mathlib.Core.Path.{refl}
-use lib.ListN.{length}
-use Rattle.positions.specs.Member.{Is}
-use Rattle.booleans.proofs.Gathering.{from_on, gathered_none, gathered_more, gathered_all}
+use lib.Dec.{ltb}
+use lib.ListN.{length, get_or}
+use Rattle.positions.specs.Member.{has, Is}
+use Rattle.cells.proofs.Loops.{taken_none, taken_more}
 use borrow.Author.Rules.{rules}
 use Rattle.booleans.proofs.signal_set.Statement.{statement}
 use Rattle.booleans.proofs.signal_set.Tie as tie
 
 abbrev invariant-loop : tie.invariant-loop
-invariant-loop samples s out₀ k₀ out k = (k ≤ length samples) × Is out.bits (from_on samples s k)
+invariant-loop samples s n out₀ k₀ out k = (k ≤ length samples) × Is out.bits (λ j. ltb j k && has (get_or samples j 0) s)
 
 abbrev decreases-loop : tie.decreases-loop
-decreases-loop samples s out₀ k₀ out k = k
+decreases-loop samples s n out₀ k₀ out k = length samples - k
+
+loop-holds : tie.Need-loop-init invariant-loop decreases-loop
+loop-holds c = (search rules, taken_none _ _ c.empty.ensures)
 
 loop-again : tie.Need-loop-preserved invariant-loop decreases-loop
 loop-again c =
-    let turn = c.before.before.before.before.before in
-    let a = turn.before.before.before.args in
-    (search rules, gathered_more a.samples.now a.s _ _ _ _ _ _ (search rules) (omega arith) (omega arith) turn.loop.invariant.1 c.before.before.up.ensures c.before.has.ensures c.with-if.ensures)
+    let a = c.before.before.before.before.before.before.before.args in
+    let l = c.before.before.before.before.loop in
+    (search rules, taken_more (λ j. has (get_or a.samples.now j 0) a.s) l.k _ _ _ l.invariant.1 c.before.has.ensures c.with-if.ensures)
+
+returns : tie.Need-returns invariant-loop decreases-loop
+returns c = let e : length c.before.before.before.before.args.samples.now ≡ c.before.loop.k = omega arith in rw e c.before.loop.invariant.1
 
 pub signal-set-spec : {M : Type 1} → statement M
 signal-set-spec =
@@ -28,13 +36,12 @@ signal-set-spec =
     invariant-loop
     decreases-loop
     (λ c κs. search rules)
-    (λ c. let a = c.before.before.args in (search rules, gathered_none a.samples.now a.s _ _ refl c.empty.ensures))
-    (λ c. search rules)
+    loop-holds
     (λ c. search rules)
     (λ c. search rules)
     (λ c κs. search rules)
     (λ c κs. search rules)
-    (λ c κs. search rules)
+    (λ c. search rules)
     (λ c. search rules)
     loop-again
-    (λ c. let a = c.before.before.before.before.args in gathered_all a.samples.now a.s _ _ (omega arith) c.before.loop.invariant.1))
+    returns)

@@ -1,6 +1,7 @@
 -- `expand::unfold` meets its contract. Assumes nothing.
 use borrow.Author.Rules.{rules}
-use Rattle.expand.proofs.Unfolding.{root_heavy, ready, first_few, first_is, unfolds_over, unfolds}
+use native.Mathlib.Omega.{arith}
+use Rattle.expand.proofs.Unfolding.{root_fits, ready, first_few, unfolds_over, unfolds}
 use Rattle.expand.proofs.unfold.Statement.{statement}
 use Rattle.expand.proofs.unfold.Tie as tie
 
@@ -12,7 +13,7 @@ unfold-spec =
     (λ c κs. search rules)
     (λ c. search rules)
     (λ c. search rules)
-    (λ c κs. (search ready, search root_heavy, search first_is, search first_few, search rules))
+    (λ c κs. (search ready, search root_fits, search first_few, omega arith, search rules))
     (λ c κs. search rules)
     (λ c. search rules)
     (λ c. search unfolds)

@@ -1,41 +1,32 @@
 -- `hollows::derived_tops` meets its contract: one law an arm, and `search` finds its facts. Assumes nothing.
 use borrow.Author.Rules.{rules}
-use borrow.Author.Tests.{eq-eqb, ne_eqb}
 use mathlib.Core.Path.{◌≡◌}
+use mathlib.Core.Bool.{true, not}
 use Prim.Native.Nat.{ℕ}
+use lib.Dec.{eqb}
+use Rattle.hollows.specs.declared.Tops.{Tops}
 use Rattle.nodes.specs.declared.DerivedSequence.{DerivedSequence}
 use Rattle.nodes.specs.declared.DerivedSequence.TheVariants.{Repeated, Delayed, Goto, Nonconsecutive}
-use Rattle.hollows.specs.Flags.{Tops, byte_of, range_tops, delay_tops, derived_tops}
+use Rattle.hollows.specs.Flags.{flags, range_tops, delay_tops, derived_tops}
 use Rattle.hollows.proofs.derived_tops.Statement.{statement}
 use Rattle.hollows.proofs.derived_tops.Tie as tie
 
-module _ (q : DerivedSequence) (x y : Tops) (t : ℕ) where
-  repeated : (i m n : ℕ) → q ≡ Repeated i m n → t ≡ byte_of (range_tops m n x) → t ≡ byte_of (derived_tops q x y)
+module _ (q : DerivedSequence) (x y : Tops) where
+  repeated : (i m n : ℕ) → q ≡ Repeated i m n → (t : Tops) → t ≡ range_tops m n x → t ≡ derived_tops q x y
   unfolding derived_tops
-  repeated i m n e f = rw (e, f)
+  repeated i m n e t f = rw (e, f)
 
-  delayed : (i j m n : ℕ) → q ≡ Delayed i j m n → t ≡ byte_of (delay_tops m n x y) → t ≡ byte_of (derived_tops q x y)
+  delayed : (i j m n : ℕ) → q ≡ Delayed i j m n → (t : Tops) → t ≡ delay_tops m n x y → t ≡ derived_tops q x y
   unfolding derived_tops
-  delayed i j m n e f = rw (e, f)
+  delayed i j m n e t f = rw (e, f)
 
-module _ (q : DerivedSequence) (x y : Tops) (i m : ℕ) where
-  module _ (e : q ≡ Goto i m) where
-    goto-none : m ≡ 0 → 1 ≡ byte_of (derived_tops q x y)
-    unfolding derived_tops byte_of
-    goto-none z = rw (e, eq-eqb m 0 z)
+  goto : (i m : ℕ) → q ≡ Goto i m → flags (eqb m 0) (not (eqb m 0)) ≡ derived_tops q x y
+  unfolding derived_tops
+  goto i m e = rw e
 
-    goto-some : (m ≡ 0 → ⊥) → 2 ≡ byte_of (derived_tops q x y)
-    unfolding derived_tops byte_of
-    goto-some z = rw (e, ne_eqb m 0 z)
-
-  module _ (e : q ≡ Nonconsecutive i m) where
-    nonconsecutive-none : m ≡ 0 → 3 ≡ byte_of (derived_tops q x y)
-    unfolding derived_tops byte_of
-    nonconsecutive-none z = rw (e, eq-eqb m 0 z)
-
-    nonconsecutive-some : (m ≡ 0 → ⊥) → 2 ≡ byte_of (derived_tops q x y)
-    unfolding derived_tops byte_of
-    nonconsecutive-some z = rw (e, ne_eqb m 0 z)
+  nonconsecutive : (i m : ℕ) → q ≡ Nonconsecutive i m → flags (eqb m 0) true ≡ derived_tops q x y
+  unfolding derived_tops
+  nonconsecutive i m e = rw e
 
 pub derived-tops-spec : {M : Type 1} → statement M
 derived-tops-spec =
@@ -49,7 +40,5 @@ derived-tops-spec =
     (λ c. search rules)
     (λ c. search repeated)
     (λ c. search delayed)
-    (λ c. search goto-none)
-    (λ c. search goto-some)
-    (λ c. search nonconsecutive-none)
-    (λ c. search nonconsecutive-some))
+    (λ c. search goto)
+    (λ c. search nonconsecutive))

@@ -1,7 +1,6 @@
 -- `hollows::hollow_derived` meets its contract. Assumes nothing.
 use borrow.Author.Rules.{rules}
 use Rattle.hollows.specs.Flags.{hollow_derived}
-use Rattle.hollows.proofs.Bytes.{letters_byte, nothing_byte}
 use Rattle.hollows.proofs.hollow_derived.Statement.{statement}
 use Rattle.hollows.proofs.hollow_derived.Tie as tie
 
@@ -17,9 +16,9 @@ hollow-derived-spec =
     (λ c. search rules)
     (λ c. search rules)
     (λ c. search rules)
-    (λ c. rw c.enum_told.given.1 (nothing_byte _ c.before.before.requires))
-    (λ c. rw c.enum-told2.given.1 (letters_byte _))
-    (λ c. rw c.enum-told3.given.1 (nothing_byte _ c.before.before.requires))
+    (λ c. rw c.before.enum_told.given.1)
+    (λ c. rw c.before.enum-told2.given.1)
+    (λ c. rw c.before.enum-told3.given.1)
     (λ c. rw c.enum-told4.given.1)
     (λ c. rw c.enum-told5.given.1)
     (λ c. rw c.enum-told6.given.1)

@@ -5,8 +5,8 @@ use mathlib.Core.Bool.{Bool}
 use Rattle.nodes.specs.declared.PropertyOp.{PropertyOp}
 use Rattle.nodes.specs.declared.PropertyOp.TheVariants.{Defined}
 use Rattle.nodes.specs.declared.DerivedProperty.{DerivedProperty}
-use Rattle.hollows.specs.Flags.{Tops, hollow_derived, hollow_property}
-use Rattle.hollows.proofs.Bytes.{letters_byte}
+use Rattle.hollows.specs.declared.Tops.{Tops}
+use Rattle.hollows.specs.Flags.{hollow_derived, hollow_property}
 use Rattle.hollows.proofs.hollow_property.Statement.{statement}
 use Rattle.hollows.proofs.hollow_property.Tie as tie
 
@@ -30,12 +30,12 @@ hollow-property-spec =
     (λ c. search rules)
     (λ c. search rules)
     (λ c κs. search rules)
-    (λ c. rw c.enum_told.given.1 (letters_byte _))
-    (λ c. rw c.enum-told2.given.1 (letters_byte _))
+    (λ c. rw c.before.enum_told.given.1)
+    (λ c. rw c.before.enum-told2.given.1)
     (λ c. rw c.enum-told3.given.1)
     (λ c. rw c.enum-told4.given.1)
     (λ c. rw c.enum-told5.given.1)
-    (λ c. rw c.enum-told6.given.1 (letters_byte _))
+    (λ c. rw c.before.enum-told6.given.1)
     (λ c. rw c.enum-told7.given.1)
     (λ c. rw c.enum-told8.given.1)
     (λ c. rw c.enum-told9.given.1)

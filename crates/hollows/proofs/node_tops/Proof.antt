@@ -1,11 +1,11 @@
 -- `hollows::node_tops` meets its contract. Assumes nothing.
 use borrow.Author.Rules.{rules}
-use Rattle.hollows.specs.Flags.{byte_of, node_tops}
+use Rattle.hollows.specs.Flags.{node_tops}
 use Rattle.hollows.proofs.node_tops.Statement.{statement}
 use Rattle.hollows.proofs.node_tops.Tie as tie
 
 pub node-tops-spec : {M : Type 1} → statement M
-unfolding node_tops byte_of
+unfolding node_tops
 node-tops-spec =
     tie.close
     (tie.spec

@@ -1,50 +1,41 @@
 -- `sequences::put_fused` meets its contract: a loop from the last start down, with what `fused_from` finds by the words that are taken once. Assumes nothing.
 use mathlib.Core.Path.{refl}
-use Prim.Native.Nat.{◌*◌}
 use native.Mathlib.Omega.{arith}
-use lib.ListN.{take}
 use borrow.Author.Rules.{rules}
 use Rattle.nodes.specs.declared.SequenceOp.TheVariants.{Fused}
 use Rattle.cells.proofs.Laying.{below-share}
-use Rattle.cells.specs.Shares.{share}
-use Rattle.cells.specs.Bits.{longer}
-use Rattle.matches.specs.Shapes.{Keeps}
 use Rattle.sequences.proofs.Making.{Down, lent, below, row_below, down_none, down_one, down_all}
 use Rattle.sequences.proofs.put_fused.Statement.{statement}
 use Rattle.sequences.proofs.put_fused.Tie as tie
 
 abbrev invariant-loop : tie.invariant-loop
-invariant-loop ws₀ k a b n at second tops₀ kept₀ i₀ ws tops kept i = Down ws₀ k n (Fused a b) i tops.bits ws × Keeps kept (longer (take (share * k) ws₀) b) n
+invariant-loop ws₀ k a b n at second tops₀ i₀ ws tops i = Down ws₀ k n (Fused a b) i tops.bits ws
 
 abbrev decreases-loop : tie.decreases-loop
-decreases-loop ws₀ k a b n at second tops₀ kept₀ i₀ ws tops kept i = i
+decreases-loop ws₀ k a b n at second tops₀ i₀ ws tops i = i
 
 -- what is known in a turn
 module _ (d : tie.At-loop invariant-loop decreases-loop) where
   abbrev taken : tie.After-longer-words invariant-loop decreases-loop
-  taken = d.before.before.before.before
+  taken = d.before.before.before
 
   abbrev start : tie.Start invariant-loop decreases-loop
   start = taken.before.before.before.before
 
 loop-holds : tie.Need-loop-init invariant-loop decreases-loop
-loop-holds c = (down_none _ _ (lent _ _ _ (search rules) (search rules)) c.before.empty.ensures, c.nothing-kept.ensures _ _)
+loop-holds c = down_none _ _ (lent _ _ _ (search rules) (search rules)) c.empty.ensures
 
 fused-from-requires : tie.Need-fused-from-requires invariant-loop decreases-loop
 fused-from-requires c κs =
     let turn = c.before.before.before in
-    let inv = turn.loop.invariant in
-    let l = inv.0.its in
+    let l = turn.loop.invariant.its in
     let s = (start turn).requires in
-    ((row_below _ l s.1, row_below _ l s.2, search rules, search rules, search rules), (rw l.rows (taken turn).longer-words.ensures.0, rw l.rows inv.1))
+    ((row_below _ l s.1, row_below _ l s.2, search rules, search rules, search rules), rw l.rows (taken turn).longer-words.ensures.0)
 
 loop-again : tie.Need-loop-preserved invariant-loop decreases-loop
 loop-again c =
-    let found = c.before.before in
-    let d = found.before.before.before.before.loop.invariant.0 in (
-      down_one d _ _ _ _ (omega arith) found.fused-from.ensures.1.1 found.fused-from.ensures.0 c.before.with-if.ensures,
-      rw (← d.its.rows) found.fused-from.ensures.1.0,
-    )
+    let found = c.before.fused-from in
+    down_one c.before.before.before.before.before.loop.invariant _ _ found.result (omega arith) (search rules) found.ensures c.with-if.ensures
 
 pub put-fused-spec : {M : Type 1} → statement M
 put-fused-spec =
@@ -58,19 +49,18 @@ put-fused-spec =
     (λ c. refl)
     (λ c κs. (row_below _ (lent _ _ _ (search rules) c.before.before.before.requires.3) c.before.before.before.requires.2, search rules, search rules))
     (λ c κs. search rules)
-    (λ c κs. search rules)
     (λ c. search rules)
     loop-holds
     (λ c. search rules)
     (λ c. search rules)
-    (λ c. below c.before.before.loop.invariant.0.its)
+    (λ c. below c.before.before.loop.invariant.its)
     (λ c. search rules)
     fused-from-requires
     (λ c κs. search rules)
-    (λ c. let s = start c.before.before.before.before.before.before in search (rules, s.fits, s.pre))
-    (λ c. let s = start c.before.before.before.before.before.before in search (rules, s.fits, s.pre))
-    (λ c. let s = start c.before.before.before.before.before.before in search (rules, s.fits, s.pre))
+    (λ c. search rules)
+    (λ c. search rules)
+    (λ c. search rules)
     (λ c. search rules)
     loop-again
     (λ c. search rules)
-    (λ c. down_all c.before.loop.invariant.0 (omega arith)))
+    (λ c. down_all c.before.loop.invariant (omega arith)))

@@ -1,40 +1,30 @@
 -- `sequences::put_then` meets its contract: a loop from the last start down, with what `then_from` finds. Assumes nothing.
-use Prim.Native.Nat.{◌*◌}
 use native.Mathlib.Omega.{arith}
-use lib.ListN.{take}
 use borrow.Author.Rules.{rules}
 use Rattle.nodes.specs.declared.SequenceOp.TheVariants.{Then}
-use Rattle.cells.specs.Shares.{share, bit_in}
-use Rattle.matches.specs.Shapes.{Keeps}
 use Rattle.sequences.proofs.Making.{Down, lent, below, row_below, down_none, down_one, down_all}
 use Rattle.sequences.proofs.put_then.Statement.{statement}
 use Rattle.sequences.proofs.put_then.Tie as tie
 
 abbrev invariant-loop : tie.invariant-loop
-invariant-loop ws₀ k a b n at tops₀ kept₀ i₀ ws tops kept i = Down ws₀ k n (Then a b) i tops.bits ws × Keeps kept (bit_in (take (share * k) ws₀) b) n
+invariant-loop ws₀ k a b n at tops₀ i₀ ws tops i = Down ws₀ k n (Then a b) i tops.bits ws
 
 abbrev decreases-loop : tie.decreases-loop
-decreases-loop ws₀ k a b n at tops₀ kept₀ i₀ ws tops kept i = i
+decreases-loop ws₀ k a b n at tops₀ i₀ ws tops i = i
 
 loop-holds : tie.Need-loop-init invariant-loop decreases-loop
-loop-holds c =
-    let s = c.before.before.before.requires in
-    (down_none _ _ (lent _ _ _ s.0 s.3) c.before.empty.ensures, c.nothing-kept.ensures _ _)
+loop-holds c = down_none _ _ (lent _ _ _ c.before.before.requires.0 c.before.before.requires.3) c.empty.ensures
 
 then-from-requires : tie.Need-then-from-requires invariant-loop decreases-loop
 then-from-requires c κs =
-    let inv = c.before.before.loop.invariant in
-    let l = inv.0.its in
-    let s = c.before.before.before.before.before.before.requires in
-    ((row_below _ l s.1, row_below _ l s.2, search rules, search rules), rw l.rows inv.1)
+    let l = c.before.before.loop.invariant.its in
+    let s = c.before.before.before.before.before.requires in
+    (row_below _ l s.1, row_below _ l s.2, search rules, search rules)
 
 loop-again : tie.Need-loop-preserved invariant-loop decreases-loop
 loop-again c =
-    let found = c.before.before in
-    let d = found.before.before.before.loop.invariant.0 in (
-      down_one d _ _ _ _ (omega arith) found.then-from.ensures.1.1 found.then-from.ensures.0 c.before.with-if.ensures,
-      rw (← d.its.rows) found.then-from.ensures.1.0,
-    )
+    let found = c.before.then-from in
+    down_one c.before.before.before.before.loop.invariant _ _ found.result (omega arith) (search rules) found.ensures c.with-if.ensures
 
 pub put-then-spec : {M : Type 1} → statement M
 put-then-spec =
@@ -44,12 +34,11 @@ put-then-spec =
     decreases-loop
     (λ c. search rules)
     (λ c κs. search rules)
-    (λ c κs. search rules)
     (λ c. search rules)
     loop-holds
     (λ c. search rules)
     (λ c. search rules)
-    (λ c. below c.before.before.loop.invariant.0.its)
+    (λ c. below c.before.before.loop.invariant.its)
     then-from-requires
     (λ c κs. search rules)
     (λ c. search rules)
@@ -58,4 +47,4 @@ put-then-spec =
     (λ c. search rules)
     loop-again
     (λ c. search rules)
-    (λ c. down_all c.before.loop.invariant.0 (omega arith)))
+    (λ c. down_all c.before.loop.invariant (omega arith)))

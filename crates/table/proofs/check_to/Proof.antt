@@ -10,10 +10,9 @@ use lib.ListN.{length, drop}
 use Rattle.refusal.specs.declared.Verdict.{Verdict}
 use Rattle.refusal.specs.First.{Answers}
 use Rattle.refusal.specs.Computed.{first_case, refused}
-use Rattle.refusal.specs.Heading.{count, version, heading_refusals}
+use Rattle.refusal.specs.Heading.{count, heading_refusals}
 use Rattle.refusal.proofs.Cases.{skip, stop}
-use Rattle.refusal.proofs.Given.{none_given}
-use Rattle.refusal.proofs.Headings.{known_if, heading_stops, heading_passes, heading-long}
+use Rattle.refusal.proofs.Headings.{heading_stops, heading_passes, heading-long}
 use Rattle.table.specs.Check.{ChecksTo}
 use Rattle.table.specs.Computed.{node_cases, later_cases, cases_to, checked_to}
 use Rattle.table.proofs.CheckingTo.{checks}
@@ -33,16 +32,13 @@ module _ (newest : ℕ) (s : List ℕ) (v : Verdict) (ev : Answers (heading_refu
     has-count : 5 < length s
     has-count = heading-long 0x54 newest s v ev h
 
-    has-version : 1 ≤ version s
-    has-version = (known_if newest (version s) (none_given (heading_refusals 0x54 newest s) tt v h ev).0.1.1.0).0
-
     left0 : Left 0
     left0 = heading_passes 0x54 newest s v ev h (later_cases s)
 
     module _ (n : ℕ) (en : n ≡ count s) where
-      no_nodes : n ≡ 0 → ChecksTo newest s (refused 4 0)
+      no-nodes : n ≡ 0 → ChecksTo newest s (refused 4 0)
       unfolding checked_to later_cases
-      no_nodes z = checks s newest _ (sym (left0 ∙ stop _ _ _ (rw (← en, eq-eqb n 0 z))))
+      no-nodes z = checks s newest _ (sym (left0 ∙ stop _ _ _ (rw (← en, eq-eqb n 0 z))))
 
       module _ (z : n ≡ 0 → ⊥) where
         many-nodes : 120 < n → ChecksTo newest s (refused 4 0)
@@ -70,10 +66,10 @@ check-to-spec =
     (λ c. search opening)
     (λ c. search has-count)
     (λ c κs. search rules)
-    (λ c. search no_nodes)
+    (λ c. search no-nodes)
     (λ c. search many-nodes)
     (λ c. search rules)
     (λ c. search rules)
     (λ c. search disagrees)
-    (λ c κs. (search rules, search rules, search rules, search has-version))
+    (λ c κs. search rules)
     (λ c. search nodes))

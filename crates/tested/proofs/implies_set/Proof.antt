@@ -1,6 +1,6 @@
 -- `tested::implies_set` meets its contract: a letter's set meets that of P, and with no such set the row is walked. Assumes nothing.
 use borrow.Author.Rules.{rules}
-use Rattle.tested.proofs.Setting.{letter-made, walk_made}
+use Rattle.tested.proofs.Setting.{letter_made, walk_made}
 use Rattle.tested.proofs.implies_set.Statement.{statement}
 use Rattle.tested.proofs.implies_set.Tie as tie
 
@@ -12,4 +12,4 @@ implies-set-spec =
     (λ c κs. search rules)
     (λ c. search walk_made)
     (λ c κs. search rules)
-    (λ c. search letter-made))
+    (λ c. search letter_made))

@@ -1,6 +1,6 @@
 -- `tested::node_set` meets its contract: a property and a letter have their sets, any other node none. Assumes nothing.
 use borrow.Author.Rules.{rules}
-use Rattle.tested.proofs.Setting.{boolean_kind, sequence-kind, property-kind, sequence_ready, property_ready}
+use Rattle.tested.proofs.Setting.{boolean_kind, sequence_kind, property_kind, sequence_ready, property_ready}
 use Rattle.tested.proofs.node_set.Statement.{statement}
 use Rattle.tested.proofs.node_set.Tie as tie
 
@@ -24,8 +24,8 @@ node-set-spec =
     (λ c.
     let d = c.before.before.before.before in
     let a = d.before.before.before.before.args in
-    sequence-kind a.rows.now a.n _ _ _ _ _ _ _ d.decode.ensures c.before.before.node.given.1 c.letter-set.ensures)
+    sequence_kind a.rows.now a.n _ _ _ _ _ _ _ d.decode.ensures c.before.before.node.given.1 c.letter-set.ensures)
     (λ c.
     let d = c.before.before.before.before in
     let a = d.before.before.before.before.args in
-    property-kind a.rows.now a.n _ _ _ _ _ _ _ d.decode.ensures c.before.before.node2.given.1 c.property-set.ensures))
+    property_kind a.rows.now a.n _ _ _ _ _ _ _ d.decode.ensures c.before.before.node2.given.1 c.property-set.ensures))

@@ -1,9 +1,16 @@
 -- `faults::formed::operand` meets its contract. Assumes nothing.
-use Rattle.faults.specs.Computed.{serves}
-use borrow.Author.Tests.{eq-eqb, ne_eqb}
+use Rattle.faults.specs.Computed.{operand_fits}
+use borrow.Author.Tests.{eq-eqb, ne_eqb, lt-ltb, le-ltb}
+use borrow.Author.Rules.{rules}
 use Rattle.faults.proofs.formed.operand.Statement.{statement}
 use Rattle.faults.proofs.formed.operand.Tie as tie
 
 pub operand-spec : {M : Type 1} → statement M
-unfolding serves
-operand-spec = tie.close (tie.spec (λ c. simp (eq-eqb _ _ c.if1.true)) (λ c. simp (ne_eqb _ _ c.if1.false)))
+unfolding operand_fits
+operand-spec = tie.close
+    (tie.spec
+    (λ c. simp (eq-eqb _ _ c.if1.true))
+    (λ c κs. search rules)
+    (λ c κs. search rules)
+    (λ c. simp (ne_eqb _ _ c.before.before.before.if1.false, ← c.before.before.wide.ensures, lt-ltb _ _ c.before.if2.true, c.sort-at.ensures))
+    (λ c. simp (ne_eqb _ _ c.before.before.if1.false, ← c.before.wide.ensures, le-ltb _ _ c.if2.false)))

@@ -1,2 +1,0 @@
--- Nodes copied to a higher number, and what repeats leave.
-pub mod Copies

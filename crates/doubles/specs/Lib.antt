@@ -1,2 +1,0 @@
--- What is made of two operands that were written.
-pub mod Doubles

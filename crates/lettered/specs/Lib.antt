@@ -1,2 +1,0 @@
--- Words that are those of another row.
-pub mod Copied

@@ -1,2 +1,0 @@
--- What the pass over the nodes finds.
-pub mod Lowest

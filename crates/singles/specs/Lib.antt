@@ -1,2 +1,0 @@
--- What is made of an operand that was written.
-pub mod Makes
