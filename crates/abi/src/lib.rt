@@ -1,4 +1,6 @@
 // The entry points under names that C and Rust call. Each calls the proved function of its own crate, and promises what that function promises.
+#![tactic(auto)]
+
 ghost use Rattle.nodes.specs.Operators.{newest};
 ghost use Rattle.table.specs.Check.{ChecksTo};
 ghost use Rattle.record.specs.Record.{Reads};

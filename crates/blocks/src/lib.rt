@@ -1,5 +1,7 @@
 // The block that each node is rewritten to, node by node, as document 01 lists them. `at` is the number of a block's first node; c, x, y and what else names a
 // node are new numbers.
+#![tactic(auto)]
+
 ghost use Rattle.std.specs.Prelude.{◌≡◌, ◌<◌, ◌≤◌, length, get_or};
 ghost use Rattle.nodes.specs.Operators.{bytes, bytes_of};
 ghost use Rattle.clocks.specs.Computed.{ref_of};

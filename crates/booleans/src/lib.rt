@@ -1,4 +1,6 @@
 // A boolean's word: the samples that satisfy it.
+#![tactic(auto)]
+
 ghost use Rattle.std.specs.Prelude.{◌≡◌, ◌*◌, ◌≤◌, ◌<◌, length, get_or};
 ghost use Rattle.positions.specs.Member.{Is};
 ghost use Rattle.cells.specs.Shares.{longest, HasWords};

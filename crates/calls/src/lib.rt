@@ -1,5 +1,7 @@
 // The calls that people use, on tables of versions 1 to 3: a version 3 table is expanded first, and what is refused on the way is answered; the base call has
 // the rest. An older table goes to the base call as it is.
+#![tactic(auto)]
+
 ghost use Rattle.calls.specs.Rewrites.{Rewrites};
 ghost use Rattle.calls.specs.Judges.{Judges, EndsMatches, PlainJudges};
 

@@ -4,7 +4,7 @@ use casetext::{answers, lists, output, text};
 use nodes::operators::NEWEST;
 
 // Which table is written: the expansion, or the rewriting.
-#[derive(Drop)]
+#[derive(Clone, Copy)]
 enum Question {
     Expand,
     Rewrite,

@@ -4,7 +4,7 @@ use casetext::{answers, lists, shares, text};
 use refusal::Verdict;
 
 // What is asked: the judge, or the match ends from a start.
-#[derive(Drop)]
+#[derive(Clone, Copy)]
 enum Question {
     Level,
     Ends(usize),

@@ -25,6 +25,8 @@
 // those words one digest of 16 digits (`casetext::short`). The words of `read` are printed in decimal either way.
 //
 // A case has 2,048 bytes at most, and a line 8,192. Any other line is printed as one that cannot be read, so that a slip fails the comparison.
+#![tactic(auto)]
+
 mod case;
 mod judging;
 mod lines;

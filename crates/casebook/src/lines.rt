@@ -4,7 +4,7 @@ use casetext::answers;
 use libc::STDIN_FILENO;
 
 // How many bytes of the present line are kept, and whether there is more to read.
-#[derive(Drop)]
+#[derive(Clone, Copy)]
 pub struct Held {
     pub len: usize,
     pub going: bool,

@@ -1,4 +1,6 @@
 // The page's cases, worked out by hand. What was lent is printed in full. How a case is written is said in `casebook`.
+#![tactic(auto)]
+
 fn main() {
     casebook::run(false);
 }

@@ -4,7 +4,7 @@ ghost use Rattle.std.specs.Prelude.{◌+◌, ◌≤◌, length};
 use crate::text::{first, numeral};
 
 // A number and how often it stands, where the text says so.
-#[derive(Drop)]
+#[derive(Clone, Copy)]
 struct Run {
     value: u64,
     times: usize,
@@ -12,7 +12,7 @@ struct Run {
 }
 
 // How many numbers were put, where the text is a list of numbers that fit.
-#[derive(Drop)]
+#[derive(Clone, Copy)]
 pub struct Taken {
     pub count: usize,
     pub good: bool,

@@ -2,14 +2,14 @@
 ghost use Rattle.std.specs.Prelude.{◌<◌, ◌≤◌, length};
 
 // A number, where the text is one.
-#[derive(Drop)]
+#[derive(Clone, Copy)]
 pub struct Number {
     pub value: usize,
     pub good: bool,
 }
 
 // The number that a text begins with, and where the text goes on after it, where it begins so.
-#[derive(Drop)]
+#[derive(Clone, Copy)]
 pub struct Leading {
     pub value: usize,
     pub rest: usize,

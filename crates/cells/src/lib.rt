@@ -1,4 +1,6 @@
 // How a workspace is shared out, and the words of rows that are read, or made 0.
+#![tactic(auto)]
+
 ghost use Rattle.std.specs.Prelude.{◌≡◌, ◌+◌, ◌≤◌, ◌<◌, ltb, length};
 ghost use Rattle.positions.specs.Member.{has, Is};
 ghost use Rattle.cells.specs.Shares.{share, longest, word_in, HasRow};

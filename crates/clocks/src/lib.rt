@@ -1,4 +1,6 @@
 // The clock of each node of an accepted table: the condition of the nearest clock node above it, if any.
+#![tactic(auto)]
+
 ghost use Rattle.std.specs.Prelude.{◌≡◌, cond, ◌≤◌, eqb, replicate};
 ghost use Rattle.refusal.specs.Heading.{count};
 ghost use Rattle.clocks.specs.Computed.{AcceptedTable, part_of, Timed};

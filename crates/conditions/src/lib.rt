@@ -1,4 +1,6 @@
 // The samples that satisfy each boolean of a table: one set a node, upwards, once.
+#![tactic(auto)]
+
 ghost use Rattle.std.specs.Prelude.{◌≡◌, ◌<◌, length, get_or};
 ghost use Rattle.refusal.specs.Heading.{count};
 ghost use Rattle.conditions.specs.Conditions.{Shaped, Conditioned, Below, Conditions};

@@ -1,4 +1,6 @@
 // A table as bytes: its heading and its nodes, put into bytes that are lent.
+#![tactic(auto)]
+
 ghost use Rattle.std.specs.Prelude.{◌≡◌, cond, ◌+◌, ◌*◌, ◌<◌, ◌≤◌, eqb, length, get_or};
 ghost use Rattle.nodes.specs.Operators.{none};
 ghost use Rattle.nodes.specs.Computed.{named_by};

@@ -1,4 +1,6 @@
 // The expander: refusals first, and then the expansion, a version 3 table written out to base nodes and an older table as it is.
+#![tactic(auto)]
+
 ghost use Rattle.std.specs.Prelude.{◌≡◌, true, ◌≤◌, take};
 ghost use Rattle.std.proofs.Math.ListN.{length};
 ghost use Rattle.refusal.specs.Heading.{count};
@@ -20,7 +22,7 @@ use unfold::put_piece;
 
 // What expanding answers: the verdict, and the count of the expansion's nodes.
 #[repr(C)]
-#[derive(Drop)]
+#[derive(Clone, Copy)]
 pub struct Expansion {
     pub verdict: Verdict,
     pub count: usize,

@@ -1,4 +1,6 @@
 // The booleans of an expanded table, which come first, in one pass: each boolean node, and the boolean that a derived node's block makes.
+#![tactic(auto)]
+
 ghost use Rattle.std.specs.Prelude.{◌≡◌, ◌+◌, ◌*◌, ◌<◌, ◌≤◌, length};
 ghost use Rattle.nodes.specs.Operators.{none, row_of};
 ghost use Rattle.encoding.specs.Encoding.{put_nodes};
@@ -12,7 +14,7 @@ use nodes::operators::row_of;
 use nodes::{Raw, node_at};
 
 // The boolean that a node gives the new table, if any, with its old operand numbers.
-#[derive(Drop)]
+#[derive(Clone, Copy)]
 pub struct Gift {
     pub some: bool,
     pub node: Raw,

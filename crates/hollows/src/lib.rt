@@ -1,5 +1,7 @@
 // Refusal 9: the lowest strong, weak or |-> node over a sequence that matches no k letters ⊤, k at least 1. Two flags a sequence are enough, and
 // no clock changes them: what they say of matching is proved in `table`.
+#![tactic(auto)]
+
 ghost use Rattle.std.specs.Prelude.{◌≡◌, ◌+◌, ◌*◌, ◌≤◌, length};
 ghost use Rattle.refusal.specs.Computed.{first};
 ghost use Rattle.hollows.specs.Flags.{then_tops, fused_tops, either_tops, range_tops, later_tops, delay_tops, derived_tops, sequence_tops, node_tops, hollow_derived, hollow_property, hollow_node, hollow};
@@ -9,7 +11,7 @@ use nodes::{
 };
 
 // What a sequence matches of a word of letters ⊤ alone: no letter; some letters, one or more.
-#[derive(Drop)]
+#[derive(Clone, Copy)]
 pub struct Tops {
     pub empty: bool,
     pub some: bool,

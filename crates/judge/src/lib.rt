@@ -1,4 +1,6 @@
 // The judge and match ends: refusals first, all before the first write, and then the rows of the rewritten table and what is read off them.
+#![tactic(auto)]
+
 ghost use Rattle.std.specs.Prelude.{◌≡◌, length, replicate};
 ghost use Rattle.rewrite.specs.Computed.{renumbered};
 ghost use Rattle.judge.specs.Judges.{Judges, EndsMatches};
@@ -18,7 +20,7 @@ use tested::tested;
 
 // What match ends answers: the ends of the matches from the start, and whether the samples from there on, followed by one or more ⊤, match.
 #[repr(C)]
-#[derive(Drop)]
+#[derive(Clone, Copy)]
 pub struct MatchEnds {
     pub verdict: Verdict,
     pub mask: PositionSet,

@@ -1,4 +1,6 @@
 // What both judges answer.
+#![tactic(auto)]
+
 ghost use Rattle.judgement.specs.Refused.{Refused};
 
 use meaning::Level;
@@ -6,7 +8,7 @@ use refusal::Verdict;
 
 // The first refusal that applies, or none; the level; and whether the samples test the assertion.
 #[repr(C)]
-#[derive(Drop)]
+#[derive(Clone, Copy)]
 pub struct Judgement {
     pub verdict: Verdict,
     pub level: Level,

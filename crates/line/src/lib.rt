@@ -1,4 +1,6 @@
 // The program's answer: the line for any input, a table and then a record. How a line is written stands in `linetext`.
+#![tactic(auto)]
+
 ghost use Rattle.std.specs.Prelude.{◌≡◌, ◌<◌, ◌≤◌, length};
 ghost use Rattle.line.specs.Program.{Says};
 ghost use Rattle.line.specs.Computed.{PartsAt};

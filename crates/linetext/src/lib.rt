@@ -1,5 +1,7 @@
 // The text of the program's line: `level 1 tested yes` or `refused 9 at 3` with a newline, put byte by byte into the bytes that are lent. What a line says stands in
 // specs/Text.antt; which line an input gets is said in `line`.
+#![tactic(auto)]
+
 ghost use Rattle.std.specs.Prelude.{◌++◌, ◌+◌, ◌<◌, ◌≤◌, length};
 ghost use Rattle.linetext.specs.Text.{decimal, level_line, refused_line};
 ghost use Rattle.linetext.specs.Computed.{digit_if, line_of, Puts};

@@ -1,4 +1,6 @@
 // A sequence's matches from one start: their ends, and whether one goes on into letters ⊤.
+#![tactic(auto)]
+
 ghost use Rattle.std.specs.Prelude.{◌≡◌, true, ℕ, ◌≤◌, ◌<◌, length, get_or};
 ghost use Rattle.telling.specs.Tells.{Tells};
 ghost use Rattle.positions.specs.Member.{has, Is};
@@ -12,7 +14,7 @@ use nodes::SequenceOp;
 use positions::PositionSet;
 
 // What is found from one start: the ends of the matches, and whether one goes on into the letters ⊤ after a part inside the record.
-#[derive(Drop)]
+#[derive(Clone, Copy)]
 pub struct Found {
     pub ends: PositionSet,
     pub on: bool,

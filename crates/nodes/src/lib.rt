@@ -1,5 +1,7 @@
 // The nodes of a table, for every crate that reads one: a node's four bytes, what its operator fixes, and the node that they stand for, one of
 // three sorts, each with its own kinds.
+#![tactic(auto)]
+
 pub mod operators;
 
 ghost use Rattle.std.specs.Prelude.{◌≡◌, ◌+◌, ◌*◌, ◌≤◌, length};
@@ -10,7 +12,7 @@ ghost use Rattle.nodes.specs.Computed.{named_by};
 use operators::row_of;
 
 // Operator, x, y and the fourth byte.
-#[derive(Drop)]
+#[derive(Clone, Copy)]
 pub struct Raw {
     pub op: u8,
     pub x: u8,
@@ -53,7 +55,7 @@ pub fn sort_at(b: &[u8], k: usize) -> u8
 
 // The kinds of a boolean, operators 0 to 6. A constant has its value, and a signal, one risen and one fallen its number; every other number is an
 // operand's index.
-#[derive(Drop)]
+#[derive(Clone, Copy)]
 pub enum BooleanOp {
     Constant(usize),
     Signal(usize),
@@ -65,7 +67,7 @@ pub enum BooleanOp {
 }
 
 // The kinds of a derived sequence, operators 23 to 26: [*m:n], ##[m:n], [->m], [=m]. After the operands come m and n.
-#[derive(Drop)]
+#[derive(Clone, Copy)]
 pub enum DerivedSequence {
     Repeated(usize, usize, usize),
     Delayed(usize, usize, usize, usize),
@@ -74,7 +76,7 @@ pub enum DerivedSequence {
 }
 
 // The kinds of a derived property, operators 41 to 47: |=>, #-#, #=#, always, s_eventually, s_until, s_nexttime.
-#[derive(Drop)]
+#[derive(Clone, Copy)]
 pub enum DerivedProperty {
     ImpliesNext(usize, usize),
     Followed(usize, usize),
@@ -86,7 +88,7 @@ pub enum DerivedProperty {
 }
 
 // The kinds of a sequence, operators 16 to 22: one letter, ##1, ##0, or, [*0], [*1:$], @(c); and the derived ones.
-#[derive(Drop)]
+#[derive(Clone, Copy)]
 pub enum SequenceOp {
     Letter(usize),
     Then(usize, usize),
@@ -99,7 +101,7 @@ pub enum SequenceOp {
 }
 
 // The kinds of a property, operators 32 to 40: strong, weak, not, or, and, |->, nexttime, until, @(c); and the derived ones.
-#[derive(Drop)]
+#[derive(Clone, Copy)]
 pub enum PropertyOp {
     Strong(usize),
     Weak(usize),
@@ -114,7 +116,7 @@ pub enum PropertyOp {
 }
 
 // A decoded node.
-#[derive(Drop)]
+#[derive(Clone, Copy)]
 pub enum Node {
     Boolean(BooleanOp),
     Sequence(SequenceOp),

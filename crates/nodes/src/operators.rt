@@ -5,7 +5,7 @@ ghost use Rattle.nodes.specs.Operators.{row_of};
 
 // What an operator fixes: the first and the last version in which it is known; the node's own sort; the sort of x, or, where that is 0, the number that x
 // is below; the sort of y, 0 for none; what the fourth byte may be; and the length of its block in rewriting under a clock.
-#[derive(Drop)]
+#[derive(Clone, Copy)]
 pub struct Row {
     pub first: u8,
     pub last: u8,

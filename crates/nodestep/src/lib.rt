@@ -1,4 +1,6 @@
 // One step of a node, or of a piece of a derived node: its operator and its operands.
+#![tactic(auto)]
+
 ghost use Rattle.std.specs.Prelude.{◌≡◌};
 ghost use Rattle.expansion.specs.Nodes.{form_of};
 ghost use Rattle.pieces.specs.declared.Piece.TheVariants.{NodeOf};

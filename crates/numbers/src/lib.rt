@@ -1,4 +1,6 @@
 // How many new nodes there are, and the new number of each node: first all booleans in their order, then one block per other node in order.
+#![tactic(auto)]
+
 ghost use Rattle.std.specs.Prelude.{◌≡◌, cond, false, ◌*◌, ◌-◌, ◌<◌, ◌≤◌, length};
 ghost use Rattle.refusal.specs.Heading.{count};
 ghost use Rattle.clocks.specs.Computed.{ref_of, Timed};
@@ -12,7 +14,7 @@ use nodes::{named, node_at};
 use refusal::wide;
 
 // How many new nodes there are: of the booleans, and of all.
-#[derive(Drop)]
+#[derive(Clone, Copy)]
 pub struct Counts {
     pub booleans: usize,
     pub all: usize,

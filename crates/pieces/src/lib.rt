@@ -1,4 +1,6 @@
 // What a derived node is expanded to, piece by piece: one step gives a piece's operator and its operands, which are pieces again or plain bytes.
+#![tactic(auto)]
+
 ghost use Rattle.std.specs.Prelude.{◌≡◌};
 ghost use Rattle.pieces.specs.declared.SequencePiece.TheVariants.{LetterOf};
 ghost use Rattle.pieces.specs.declared.PropertyPiece.TheVariants.{NotOf};
@@ -7,7 +9,7 @@ ghost use Rattle.pieces.specs.Pieces.{subject_piece};
 ghost use Rattle.pieces.specs.Steps.{step, times_step, range_step, delay_step, sequence_step, property_step};
 
 // What is repeated: node x; a letter of the boolean c; the group of b[->m], where c is !b.
-#[derive(Drop)]
+#[derive(Clone, Copy)]
 pub enum Subject {
     Whole(usize),
     OneLetter(u8),
@@ -15,7 +17,7 @@ pub enum Subject {
 }
 
 // Pieces that are sequences. A letter b; [*0], [*1:$] and [*0:$] of it; !b[*0:$] ##1 b; [*m]; [*m:n]; x ##0 y; x ##1 1[*m:n]; x ##1 1[*m:n] ##1 y; x ##1 1.
-#[derive(Drop)]
+#[derive(Clone, Copy)]
 pub enum SequencePiece {
     LetterOf(u8),
     NoLetter(u8),
@@ -31,7 +33,7 @@ pub enum SequencePiece {
 }
 
 // Pieces that are properties. not x; x |-> not y; x |=> not y; weak(0); not x until weak(0); x until y; s_eventually x; nexttime not x.
-#[derive(Drop)]
+#[derive(Clone, Copy)]
 pub enum PropertyPiece {
     NotOf(usize),
     ImpliesNot(usize, usize),
@@ -44,7 +46,7 @@ pub enum PropertyPiece {
 }
 
 // A plain byte; node k of the table, whole; a piece of a derived node.
-#[derive(Drop)]
+#[derive(Clone, Copy)]
 pub enum Piece {
     Byte(u8),
     NodeOf(usize),
@@ -53,7 +55,7 @@ pub enum Piece {
 }
 
 // A piece's operator and operands.
-#[derive(Drop)]
+#[derive(Clone, Copy)]
 pub struct Step {
     pub op: u8,
     pub x: Piece,

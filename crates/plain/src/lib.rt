@@ -1,4 +1,6 @@
 // The plain judge: it reads the clocked table directly, rewrites nothing and writes to nothing that is lent.
+#![tactic(auto)]
+
 ghost use Rattle.std.specs.Prelude.{◌≡◌, ◌≤◌};
 ghost use Rattle.refusal.specs.Heading.{count};
 ghost use Rattle.conditions.specs.Conditions.{Shaped};

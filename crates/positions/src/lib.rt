@@ -1,5 +1,7 @@
 // A set of positions, the places 0 to 63, as one 64-bit number: place k is in the set where bit k is set.
 // A method takes its sets by value and hands a set back. Each contract says of every place whether the result has it.
+#![tactic(auto)]
+
 ghost use Rattle.std.specs.Prelude.{◌≡◌, false, not, ◌||◌, ◌&&◌, ℕ, suc, ◌+◌, ◌-◌, ◌≤◌, ◌<◌, eqb, leb, ltb};
 ghost use Rattle.telling.specs.Tells.{some};
 ghost use Rattle.positions.specs.Member.{has, Is, Lowest};
@@ -8,7 +10,7 @@ ghost use Rattle.positions.specs.Member.{has, Is, Lowest};
 const ABOVE_ZERO: u64 = 18446744073709551614;
 
 #[repr(C)]
-#[derive(Drop)]
+#[derive(Clone, Copy)]
 pub struct PositionSet {
     pub bits: u64,
 }

@@ -1,4 +1,6 @@
 // What each operator makes of the words of its operands, for the three tails.
+#![tactic(auto)]
+
 pub mod untils;
 
 ghost use Rattle.std.specs.Prelude.{false, ◌||◌, ◌&&◌, suc, ◌≤◌, leb, length};
@@ -14,7 +16,7 @@ use positions::PositionSet;
 use untils::{begun, begun_in_tail, leading};
 
 // A property's words: the suffixes that satisfy it with no tail, with a ⊤ tail and with a ⊥ tail.
-#[derive(Drop)]
+#[derive(Clone, Copy)]
 pub struct Suffixes {
     pub neutral: PositionSet,
     pub weak: PositionSet,

@@ -1,4 +1,6 @@
 // What the judge reads off the rows of a table: the level of the root.
+#![tactic(auto)]
+
 ghost use Rattle.std.specs.Prelude.{◌≡◌, length};
 ghost use Rattle.cells.specs.Shares.{HasRow};
 ghost use Rattle.readout.specs.Computed.{level_in};

@@ -1,4 +1,6 @@
 // Reading a record: its refusals, all before the first write, and then its samples, one word each.
+#![tactic(auto)]
+
 ghost use Rattle.std.specs.Prelude.{◌≡◌, ◌++◌, ◌+◌, ◌*◌, ◌<◌, ◌≤◌, length, take, drop};
 ghost use Rattle.refusal.specs.Heading.{number};
 ghost use Rattle.record.specs.Record.{sample_at, samples, Reads};
@@ -8,7 +10,7 @@ use refusal::{Verdict, wide};
 
 // What reading answers: the verdict, and how many samples it wrote.
 #[repr(C)]
-#[derive(Drop)]
+#[derive(Clone, Copy)]
 pub struct Reading {
     pub verdict: Verdict,
     pub count: usize,

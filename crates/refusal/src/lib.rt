@@ -1,5 +1,7 @@
 // What an entry point answers first of all: the number of the refusal that applies, and its node. Tables and records open alike, so the
 // refusals of their first six bytes stand here, once.
+#![tactic(auto)]
+
 ghost use Rattle.std.specs.Prelude.{◌≡◌, ◌≤◌, length};
 ghost use Rattle.refusal.specs.First.{Answers};
 ghost use Rattle.refusal.specs.Heading.{version, heading_refusals};
@@ -7,7 +9,7 @@ ghost use Rattle.refusal.specs.Computed.{is_marked, is_known};
 
 // The number of the refusal and its node; an acceptance has number and node 0.
 #[repr(C)]
-#[derive(Drop)]
+#[derive(Clone, Copy)]
 pub struct Verdict {
     pub number: u8,
     pub node: usize,

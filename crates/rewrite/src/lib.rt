@@ -1,4 +1,6 @@
 // Rewriting clocks away: refusals first, all before the first write, and then the new table.
+#![tactic(auto)]
+
 ghost use Rattle.std.specs.Prelude.{◌≡◌, length, replicate};
 ghost use Rattle.rewrite.specs.Rewrites.{Rewrites};
 ghost use Rattle.rewrite.specs.Computed.{refused_rewriting, renumbered, Renumbers};
@@ -10,7 +12,7 @@ use writing::put_table;
 
 // What rewriting answers: the verdict, and m, the count of new nodes.
 #[repr(C)]
-#[derive(Drop)]
+#[derive(Clone, Copy)]
 pub struct Rewriting {
     pub verdict: Verdict,
     pub count: usize,

@@ -1,4 +1,6 @@
 // The rows of a table without clocks, in the lent workspace: 65 words a node, made from the rows below it by word operations.
+#![tactic(auto)]
+
 ghost use Rattle.std.specs.Prelude.{◌≡◌, ◌*◌, ◌≤◌, length, take};
 ghost use Rattle.cells.specs.Shares.{share, longest, HasRow};
 ghost use Rattle.cells.specs.Stored.{with_row};

@@ -1,4 +1,6 @@
 // Runs of places that lead up to a place, for all positions at once: the length that is looked at doubles with each step.
+#![tactic(auto)]
+
 ghost use Rattle.std.specs.Prelude.{◌≤◌};
 ghost use Rattle.positions.specs.Member.{Is};
 ghost use Rattle.runs.specs.Runs.{Further, led};
@@ -6,7 +8,7 @@ ghost use Rattle.runs.specs.Runs.{Further, led};
 use positions::PositionSet;
 
 // The runs of a length, and the places from which a shorter run, possibly of none, leads up.
-#[derive(Drop)]
+#[derive(Clone, Copy)]
 pub struct Led {
     pub runs: PositionSet,
     pub out: PositionSet,

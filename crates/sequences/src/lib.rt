@@ -1,5 +1,7 @@
 // A sequence's row in the workspace: its words 0 to n, and word 64. The kind is chosen once, and each kind has its loop, which answers the starts from which
 // the match goes on.
+#![tactic(auto)]
+
 ghost use Rattle.std.specs.Prelude.{◌≡◌, ◌*◌, ◌≤◌, length, take};
 ghost use Rattle.cells.specs.Shares.{share, longest, HasRow};
 ghost use Rattle.cells.specs.Ready.{ready_sequence};

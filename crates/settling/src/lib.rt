@@ -1,4 +1,6 @@
 // What the judge and match ends refuse, and what they need of the table: both are settled here, before anything is written.
+#![tactic(auto)]
+
 ghost use Rattle.std.specs.Prelude.{◌≡◌, length, replicate};
 ghost use Rattle.refusal.specs.Computed.{first_case};
 ghost use Rattle.rewrite.specs.Computed.{renumbered};

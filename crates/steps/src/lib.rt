@@ -1,4 +1,6 @@
 // One step of the plain engine: what a node's row is by the rows of its operands, by value.
+#![tactic(auto)]
+
 mod beside;
 
 ghost use Rattle.std.specs.Prelude.{◌≡◌, ◌≤◌, length};
@@ -14,7 +16,7 @@ use ticking::letters::letter_row;
 use ticking::{Ticks, next_under, second_tick, tick_run, until_under};
 
 // What a property node answers: the suffixes that satisfy it with no tail, with a ⊤ tail and with a ⊥ tail, and the positions from which it is tested.
-#[derive(Drop)]
+#[derive(Clone, Copy)]
 pub struct Told {
     pub holds: Suffixes,
     pub tested: PositionSet,

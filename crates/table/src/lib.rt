@@ -1,5 +1,7 @@
 // Checking a table: refusals 1 to 9, the first that applies, for any bytes. The tests of its nodes are those of `faults`; what the nodes stand for,
 // and that the tests say what the page says, is stated and proved here.
+#![tactic(auto)]
+
 ghost use Rattle.std.specs.Prelude.{◌≡◌, ◌+◌, ◌*◌, ◌≤◌, length};
 ghost use Rattle.refusal.specs.Computed.{first_case};
 ghost use Rattle.table.specs.Check.{Checks, ChecksTo};

@@ -1,4 +1,6 @@
 // Whether a record tests the property at the root of a clocked table: one set of positions a node, upwards, from the rows of the rewritten table.
+#![tactic(auto)]
+
 ghost use Rattle.std.specs.Prelude.{◌≡◌, ◌≤◌, length, get_or};
 ghost use Rattle.positions.specs.Member.{has, Is};
 ghost use Rattle.refusal.specs.Heading.{count};

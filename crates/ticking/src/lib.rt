@@ -1,4 +1,6 @@
 // What a clock changes, for all positions at once: the letter, nexttime and until.
+#![tactic(auto)]
+
 pub mod letters;
 
 ghost use Rattle.std.specs.Prelude.{◌≤◌};
@@ -13,7 +15,7 @@ use properties::untils::begun;
 use runs::lead;
 
 // A clock: whether there is one, and its ticks. With no clock every sample counts as one.
-#[derive(Drop)]
+#[derive(Clone, Copy)]
 pub struct Ticks {
     pub clocked: bool,
     pub at: PositionSet,

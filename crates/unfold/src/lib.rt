@@ -1,4 +1,6 @@
 // Writes out a piece of what a version 3 table is expanded to, after its operands, and stops where a table of 120 nodes has no room for all.
+#![tactic(auto)]
+
 ghost use Rattle.std.specs.Prelude.{◌≡◌, ◌+◌, ◌<◌, ◌≤◌, length};
 ghost use Rattle.expansion.specs.Nodes.{form_of};
 ghost use Rattle.nodestep.specs.Ready.{Ready};

@@ -1,5 +1,7 @@
 // The plain engine: a node's row, by calling itself on the node's operands. The node's number falls with each call, and a clock node hands its condition down.
 // An operand of another sort, and the operand that an operator does not have, which is node 0 and so a boolean, has an empty row.
+#![tactic(auto)]
+
 ghost use Rattle.std.specs.Prelude.{false, ◌<◌};
 ghost use Rattle.refusal.specs.Heading.{count};
 ghost use Rattle.steps.specs.Steps.{ToldBy};

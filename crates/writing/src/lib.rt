@@ -1,4 +1,6 @@
 // Writes the new table into the bytes lent: its heading, the blocks of the booleans and then those of the other nodes, each pass in order.
+#![tactic(auto)]
+
 ghost use Rattle.std.specs.Prelude.{◌≡◌, ◌+◌, ◌*◌, ◌<◌, ◌≤◌, length};
 ghost use Rattle.refusal.specs.Heading.{count};
 ghost use Rattle.clocks.specs.Computed.{clock_by};

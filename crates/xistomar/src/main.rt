@@ -1,5 +1,7 @@
 // The program: a table and then a record from standard input, one line to standard output. What the line is for any input is proved in the crate `line`; here
 // is only reading and writing.
+#![tactic(auto)]
+
 mod input;
 
 use input::take;
