@@ -179,8 +179,8 @@ module _ (pre : ℕ → List Refusal) (rest : List ℕ → List Refusal) where
             let (o, e) = older_is s old n in
             subst (λ (t : List ℕ). Answers (pre (sort_at s (root s)) ++ rest t) v ↔ Answers (call_own s) v) e (not_large o)
 
-    opened-answers : Opened s → Answers (of_base (expansion s)) v ↔ Answers (of_call s) v
-    opened-answers o = (
+    opened_answers : Opened s → Answers (of_base (expansion s)) v ↔ Answers (of_call s) v
+    opened_answers o = (
       λ a. answers_beyond (refusals_to newest s) (call_own s) v given (same.0 (beyond (Check.refusals (expansion s)) (base_own (expansion s)) v given' a)),
       λ a. answers_beyond (Check.refusals (expansion s)) (base_own (expansion s)) v given' (same.1 (beyond (refusals_to newest s) (call_own s) v given a)),
     )
@@ -197,7 +197,7 @@ module _ (pre : ℕ → List Refusal) (rest : List ℕ → List Refusal) where
     -- the two answer the same
     pub taken_answers : {t : List ℕ} → Taken s t → Answers (of_base t) v ↔ Answers (of_call s) v
     taken_answers (as_it_is old) = older_answers old
-    taken_answers (expanded o) = opened-answers o
+    taken_answers (expanded o) = opened_answers o
 
     -- a call that accepts has opened the table
     pub call_opened : T (numbered (of_call s)) → v.number ≡ 0 → Answers (of_call s) v → Opened s

@@ -56,7 +56,7 @@ handed_by_row s p w ρ =
 unblocked : Entry → Bool
 unblocked e = beq (eqb e.row.block 0) (eqb e.code 22 || eqb e.code 40)
 
-pub clock_op : (op : ℕ) → ¬ ((row_of op).own_val ≡ none) → Tells (eqb (row_of op).block 0) ((op ≡ 22) ⊎ (op ≡ 40))
+pub clock_op : (op : ℕ) → ¬ ((row_of op).own ≡ none) → Tells (eqb (row_of op).block 0) ((op ≡ 22) ⊎ (op ≡ 40))
 unfolding operators unblocked
 clock_op op k =
     let (e, r, o, t) = line_of unblocked tt op k in
@@ -72,14 +72,14 @@ clock_op op k =
 
 -- a clock node's x is a boolean, and its y has its own sort, a sequence's or a property's
 setting : Entry → Bool
-setting e = not (eqb e.row.block 0) || (eqb e.row.x boolean && (eqb e.row.y e.row.own_val && leb sequence e.row.y))
+setting e = not (eqb e.row.block 0) || (eqb e.row.x boolean && (eqb e.row.y e.row.own && leb sequence e.row.y))
 
 pub clock_row : (s : List ℕ) (p : ℕ) → WellFormed s p → is_clock s p ≡ true → ((row_at s p).x ≡ boolean) × ((row_at s p).y ≡ sort_at s p) × (sequence ≤ (row_at s p).y)
 unfolding is_clock sort_at setting operators
 clock_row s p w q =
     let (e, r, o, t) = line_of setting tt (raw_at s p).op w.known in
     let b : e.row.block ≡ 0 = ap (λ (u : Row). u.block) (sym r) ∙ eqb-true (row_at s p).block 0 q in
-    let z = (is_or (is_not (is_eq e.row.block 0)) (is_and (is_eq e.row.x boolean) (is_and (is_eq e.row.y e.row.own_val) (is_le sequence e.row.y)))).to t in
+    let z = (is_or (is_not (is_eq e.row.block 0)) (is_and (is_eq e.row.x boolean) (is_and (is_eq e.row.y e.row.own) (is_le sequence e.row.y)))).to t in
     subst (λ (u : Row). (u.x ≡ boolean) × (u.y ≡ u.own) × (sequence ≤ u.y)) (sym r)
     (⊎_elim (λ (n : ¬ (e.row.block ≡ 0)). absurd (n b)) (λ y. (y.0, y.1.0, y.1.1)) z)
 

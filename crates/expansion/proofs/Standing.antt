@@ -31,7 +31,7 @@ First t n v = Lower t n boolean v
 pub data Typed (B : ℕ → Type 0) : ℕ → Form → Type 0 where
   typed_none : Typed B none (byte 0)
   typed_boolean : {v : ℕ} → B v → Typed B boolean (byte v)
-  typed_node : {op : ℕ} {x y : Form} → T (heavy (row_of op)) → Typed B (row_of op).x x → Typed B (row_of op).y y → Typed B (row_of op).own_val (node op x y)
+  typed_node : {op : ℕ} {x y : Form} → T (heavy (row_of op)) → Typed B (row_of op).x x → Typed B (row_of op).y y → Typed B (row_of op).own (node op x y)
 
 module _ {B : ℕ → Type 0} where
   -- a sequence or a property has a node, and the last is its own
@@ -71,7 +71,7 @@ module _ (B : ℕ → Type 0) (t : List ℕ) where
 
   -- a node over two operands, of which X and Y hold
   over : {X Y Z : ℕ → Type 0} {f g : Form} (op : ℕ) → T (heavy (row_of op)) → ((k x y : ℕ) → node_at t k ≡ node_of (bytes op x y) → X x → Y y → Z k)
-      → Stands (row_of op).x X f → Stands (row_of op).y Y g → Stands (row_of op).own_val Z (node op f g)
+      → Stands (row_of op).x X f → Stands (row_of op).y Y g → Stands (row_of op).own Z (node op f g)
   over {f = f} {g = g} op h make p q = record {
     typed = typed_node h p.typed q.typed;
     there = λ at l.

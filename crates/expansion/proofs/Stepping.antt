@@ -42,7 +42,7 @@ module _ (ν : ℕ → ℕ) (c : ℕ) where
   unfolding operators lookup node_of node_form masked either
   all_over F n = refl
 
-  is_over : (F : ℕ → Form) (n : Raw) → ¬ ((row_of n.op).own_val ≡ none) → node_form ν F c (node_of n) ≡ over n (F n.x) (F n.y) n.op (row_of n.op)
+  is_over : (F : ℕ → Form) (n : Raw) → ¬ ((row_of n.op).own ≡ none) → node_form ν F c (node_of n) ≡ over n (F n.x) (F n.y) n.op (row_of n.op)
   unfolding node_of
   is_over F n k =
       of_lookup (node_form ν F c) (λ e. e.make n.x n.y n.fourth) (Boolean (Constant 0)) operators n.op

@@ -54,7 +54,7 @@ module _ (t : List ℕ) (q : ℕ) where
         let next : at + (size x + size y + 1) ≡ suc c = omega arith in
         let last : at + (size x + size y) ≡ c = omega arith in
         let (o, k) = heavy_row (row_of op) g in
-        let d = below_more (row_of op).own_val c q (λ z. omega arith) in
+        let d = below_more (row_of op).own c q (λ z. omega arith) in
         let places : places_of t q c ≡ hits_of (row_of op).x (named at x) q + hits_of (row_of op).y (named (at + size x) y) q =
         ap (λ (r : Raw). hits_of (row_of r.op).x r.x q + hits_of (row_of r.op).y r.y q) (ap (raw_at t) (sym last) ∙ lies_top t at op x y l) in
         rw (next, last) (omega arith)

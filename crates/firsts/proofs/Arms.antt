@@ -40,7 +40,7 @@ module _ (v : Raw) where
     some_delay l = rw (ne_eqb (v.fourth / 16) 0 (λ z. omega arith)) at (arm 24 e)
 
   -- the last
-  pub no_arm : ¬ ((row_of v.op).own_val ≡ none) → NotAmong (Unit {0}) (only giving operators) v.op → no_gift ≡ gift_of v
+  pub no_arm : ¬ ((row_of v.op).own ≡ none) → NotAmong (Unit {0}) (only giving operators) v.op → no_gift ≡ gift_of v
   unfolding gift_of node_of given first_gift operators
   no_arm k h =
       sym

@@ -40,7 +40,7 @@ gift_one (o ∷ p ∷ os) e l = absurd (let z : ⊥ = omega arith in z)
 -- ---- what node k gives
 
 -- its operator is known
-pub known : (s : List ℕ) (n : ℕ) → Formed s n → (k : ℕ) → k < n → (v : Raw) → v ≡ raw_at s k → ¬ ((row_of v.op).own_val ≡ none)
+pub known : (s : List ℕ) (n : ℕ) → Formed s n → (k : ℕ) → k < n → (v : Raw) → v ≡ raw_at s k → ¬ ((row_of v.op).own ≡ none)
 unfolding sort_at
 known s n h k l v ev = rw ev (h.fit k l).known
 

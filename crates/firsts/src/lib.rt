@@ -50,7 +50,7 @@ fn nothing() -> Gift
 
 // A boolean gives itself; |=>, #=# and ##[m:n] with n > 0 make 1, always, s_eventually and s_until make 0, [->m] and [=m] make !b.
 fn given(v: Raw) -> Gift
-    requires { ¬ ((row_of v.op).own_val ≡ none) }
+    requires { ¬ ((row_of v.op).own ≡ none) }
     ensures { result ≡ gift_of v }
 {
     let op = v.op;

@@ -169,24 +169,24 @@ module _ (s : List ℕ) (wrong n start words : ℕ) (lent : List ℕ) (r : Renum
   pub some : 1 ≤ r.count
   some = let c = count_is in let l = new_built.some in omega arith
 
-  pub used-bytes : 4 * r.count + 6 ≡ length t
-  used-bytes = let c = count_is in let l = new_built.long in omega arith
+  pub used_bytes : 4 * r.count + 6 ≡ length t
+  used_bytes = let c = count_is in let l = new_built.long in omega arith
 
   pub four_fit : M.Fits w64 (4 * r.count)
   four_fit = let l = few in record { fits = omega arith }
 
-  pub used-fit : M.Fits w64 (4 * r.count + 6)
-  used-fit = let l = few in record { fits = omega arith }
+  pub used_fit : M.Fits w64 (4 * r.count + 6)
+  used_fit = let l = few in record { fits = omega arith }
 
-  pub used-within : 4 * r.count + 6 ≤ 486
-  used-within = let l = few in omega arith
+  pub used_within : 4 * r.count + 6 ≤ 486
+  used_within = let l = few in omega arith
 
   -- its last node is the root
   last_is : r.count - 1 ≡ root t
   last_is = ap (λ (m : ℕ). m - 1) (sym count_is)
 
-  in-root : root t < count t
-  in-root = let l = new_built.some in omega arith
+  in_root : root t < count t
+  in_root = let l = new_built.some in omega arith
 
   -- the root of s is of the other sort
   sequence_at_root : wrong ≡ property → (q : Seq Atom) × RootS s q
@@ -253,7 +253,7 @@ module _ (s : List ℕ) (wrong n start words : ℕ) (lent : List ℕ) (r : Renum
       level_right g =
           let (P, a) = property_at_root g in
           let b = keeps.property P a in
-          let row = rows.properties (root t) in-root (rew_p free P) b in
+          let row = rows.properties (root t) in_root (rew_p free P) b in
           (P, a, (keeps.levels P (rew_p free P) a b (pairs xs) _).1 (rw last_is (level_from reading (row.answers bots 0 (omega arith)) (row.answers none 0 (omega arith)) (row.answers tops 0 (omega arith)))))
 
       -- and what its set says
@@ -271,7 +271,7 @@ module _ (s : List ℕ) (wrong n start words : ℕ) (lent : List ℕ) (r : Renum
       ends_right g =
           let (q, a) = sequence_at_root g in
           let b = keeps.sequence q a in
-          let row = rows.sequences (root t) in-root (rew_s free q) b in
+          let row = rows.sequences (root t) in_root (rew_s free q) b in
           let same = keeps.matches q (rew_s free q) a b in (
             q,
             a,

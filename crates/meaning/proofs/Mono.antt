@@ -16,11 +16,11 @@ use Rattle.meaning.proofs.Tails.{top-ticks, bot_ticks, topped_strong, ends}
 
 module _ {S : Type 0} where
   -- what one cell says of a higher one
-  in-or : (x : Cell S) → T (inside x) ⊎ T (not (inside x))
-  in-or (real s) = inl tt
-  in-or top = inl tt
-  in-or bot = inl tt
-  in-or end = inr tt
+  in_or : (x : Cell S) → T (inside x) ⊎ T (not (inside x))
+  in_or (real s) = inl tt
+  in_or top = inl tt
+  in_or bot = inl tt
+  in_or end = inr tt
 
   end_up : {x y : Cell S} → Below x y → T (not (inside x)) → T (inside y) → T (is_top y)
   end_up from_bot t u = absurd t
@@ -46,9 +46,9 @@ module _ {S : Type 0} where
   bots_stay from_real t = absurd t
   bots_stay stay t = t
 
-  in-back : {x y : Cell S} → Keeps x y → T (inside y) → T (inside x)
-  in-back from_real t = tt
-  in-back stay t = t
+  in_back : {x y : Cell S} → Keeps x y → T (inside y) → T (inside x)
+  in_back from_real t = tt
+  in_back stay t = t
 
   top_bot : (x : Cell S) → T (is_top x) → T (is_bot x) → ⊥
   top_bot (real s) t u = t
@@ -101,7 +101,7 @@ module _ {A S : Type 0} (reads : A → S → Bool) where
       → (p : ℕ) → i ≤ p → T (inside (v p)) → Strong reads κ r (cut v (suc p)) i
   weak_up κ r a w v i h pv s zero u t =
       ⊎_elim (λ x. strong_mono κ r (cut w 1) (cut v 1) i (cut_mono w v 1 h) (s zero u x))
-      (λ x. weak_base κ r a v i zero pv zero-le (end_up (h zero) x t)) (in-or (w zero))
+      (λ x. weak_base κ r a v i zero pv zero-le (end_up (h zero) x t)) (in_or (w zero))
   weak_up κ r a w v i h pv s (suc p) u t =
       ⊎_elim (λ x. strong_mono κ r (cut w (suc (suc p))) (cut v (suc (suc p))) i (cut_mono w v (suc (suc p)) h) (s (suc p) u x))
       (λ x.
@@ -110,9 +110,9 @@ module _ {A S : Type 0} (reads : A → S → Bool) where
       (λ y.
       strong_mono κ r (cut v (suc p)) (cut v (suc (suc p))) i
       (λ q. cut_below v v (suc p) (suc (suc p)) q (λ _ _. same) (λ a b. tops_stay (pv (suc p) q a) z))
-      (weak_up κ r a w v i h pv s p y (in-back (pv p (suc p) (omega arith)) t)))
+      (weak_up κ r a w v i h pv s p y (in_back (pv p (suc p) (omega arith)) t)))
       (side p i))
-      (in-or (w (suc p)))
+      (in_or (w (suc p)))
 
   -- nexttime under a clock goes up
   Asked : Bexp A → Prop A → Word S → ℕ → Type 0
@@ -181,7 +181,7 @@ module _ {A S : Type 0} (reads : A → S → Bool) where
   mono κ (implies r P) a w v i h pw pv s =
       λ p u m. mono κ P a.1 w v p h pw pv (s p u (match_mono reads κ r (bar v) (bar w) i (suc p) (λ q _ _. below_flip (h q)) m))
   mono free (next P) a w v i h pw pv (inl s) =
-      ⊎_elim (λ t. inr ((ends reads free P a v (suc i)).0 (λ p u. tops_stay (pv i p (omega arith)) (end_up (h i) s t)))) (λ t. inl t) (in-or (v i))
+      ⊎_elim (λ t. inr ((ends reads free P a v (suc i)).0 (λ p u. tops_stay (pv i p (omega arith)) (end_up (h i) s t)))) (λ t. inl t) (in_or (v i))
   mono free (next P) a w v i h pw pv (inr s) = inr (mono free P a w v (suc i) h pw pv s)
   mono (on c) (next P) a w v i h pw pv s = next_up c P w v i h pw pv (λ k. mono (on c) P a w v k h pw pv) s
   mono κ (until P Q) a w v i h pw pv (inl (j, ij, t, n, s, before)) =
@@ -196,11 +196,11 @@ module _ {A S : Type 0} (reads : A → S → Bool) where
         λ k u l y. mono κ P a.0 w v k h pw pv (before k u l (below-counts κ (below_flip (h k)) y)),
       ))
       (λ x. absurd ((ends reads κ Q a.1 w j).1 (λ p u. bots_stay (pw j p u) (end_down (h j) t x)) s))
-      (in-or (v j))
+      (in_or (v j))
   mono κ (until P Q) a w v i h pw pv (inr s) =
       inr
       (λ k u t n.
       ⊎_elim (λ x. mono κ P a.0 w v k h pw pv (s k u x (below-counts κ (below_flip (h k)) n)))
       (λ x. (ends reads κ P a.0 v k).0 (λ p y. tops_stay (pv k p y) (end_up (h k) x t)))
-      (in-or (w k)))
+      (in_or (w k)))
   mono κ (under c P) a w v i h pw pv s = mono (on c) P a w v i h pw pv s

@@ -10,7 +10,7 @@ use Rattle.nodes.specs.Nodes.{raw_at, sort_at, Operand, KnownIn, WellFormed}
 
 -- the bytes r are right as node q of t
 pub record Right (t : List ℕ) (q : ℕ) (r : Raw) : Type 0 where
-  pub known : ¬ ((row_of r.op).own_val ≡ none)
+  pub known : ¬ ((row_of r.op).own ≡ none)
   pub in_version : KnownIn (row_of r.op) (version t)
   pub x : Operand t q (row_of r.op).x (row_of r.op).limit r.x
   pub y : Operand t q (row_of r.op).y 1 r.y

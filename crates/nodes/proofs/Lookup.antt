@@ -72,7 +72,7 @@ line_in p (e ∷ es) t op k =
     go h later true q k = (e, refl, eqb-true op e.code q, h)
     go h later false q k = later k
 
-pub line_of : (p : Entry → Bool) → T (all_of p operators) → (op : ℕ) → ¬ ((row_of op).own_val ≡ none) → LineOf p op (row_of op)
+pub line_of : (p : Entry → Bool) → T (all_of p operators) → (op : ℕ) → ¬ ((row_of op).own ≡ none) → LineOf p op (row_of op)
 unfolding row_of
 line_of p t op k = line_in p operators t op k
 
@@ -94,7 +94,7 @@ same_in {A} f g d d' (e ∷ es) q op k = go (same_in f g d d' es tails op) (eqb 
     go later true k = heads
     go later false k = later k
 
-pub same_line : {A : Type 0} (f g : Entry → A) (d d' : A) → map f operators ≡ map g operators → (op : ℕ) → ¬ ((row_of op).own_val ≡ none)
+pub same_line : {A : Type 0} (f g : Entry → A) (d d' : A) → map f operators ≡ map g operators → (op : ℕ) → ¬ ((row_of op).own ≡ none)
     → lookup f d operators op ≡ lookup g d' operators op
 unfolding row_of
 same_line f g d d' q op k = same_in f g d d' operators q op k
@@ -112,7 +112,7 @@ coded_in {A} f d (e ∷ es) op k = go (coded_in f d es op) (eqb op e.code) refl 
     go later true q k = ap (λ (c : ℕ). f c e.row) (sym (eqb-true op e.code q))
     go later false q k = later k
 
-pub coded_line : {A : Type 0} (f : ℕ → Row → A) (d : A) (op : ℕ) → ¬ ((row_of op).own_val ≡ none) → lookup (λ e. f e.code e.row) d operators op ≡ f op (row_of op)
+pub coded_line : {A : Type 0} (f : ℕ → Row → A) (d : A) (op : ℕ) → ¬ ((row_of op).own ≡ none) → lookup (λ e. f e.code e.row) d operators op ≡ f op (row_of op)
 unfolding row_of
 coded_line f d op k = coded_in f d operators op k
 
@@ -144,5 +144,5 @@ module _ {A : Type 0} (p : Entry → Bool) (f : Entry → A) (d : A) where
       go later false h = let q = later acc h in (either_way (eqb op e.code) q.0, q.1)
 
   -- a known operator that is past them all, where f is d of all other lines
-  pub last_arm : map f operators ≡ map masked operators → (d' : A) (op : ℕ) → ¬ ((row_of op).own_val ≡ none) → NotAmong (Unit {0}) (only p operators) op → lookup f d' operators op ≡ d
+  pub last_arm : map f operators ≡ map masked operators → (d' : A) (op : ℕ) → ¬ ((row_of op).own ≡ none) → NotAmong (Unit {0}) (only p operators) op → lookup f d' operators op ≡ d
   last_arm q d' op k h = same_line f masked d' d q op k ∙ (past_only (Unit {0}) operators op h).0

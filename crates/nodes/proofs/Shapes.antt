@@ -102,7 +102,7 @@ module _ (Q : ℕ → ℕ → Type 0) where
   formed (Property (Defined (StrongNext x))) f g = f tt
 
 -- a line's own sort is that of its node: antt computes the two for all lines at once
-own_sorts : (x y q : ℕ) → map (λ e. e.row.own_val) operators ≡ map (λ e. sort_of (e.make x y q)) operators
+own_sorts : (x y q : ℕ) → map (λ e. e.row.own) operators ≡ map (λ e. sort_of (e.make x y q)) operators
 unfolding operators
 own_sorts x y q = refl
 
@@ -116,7 +116,7 @@ module _ (s : List ℕ) (k : ℕ) (w : WellFormed s k) where
   sort_is =
       let n = raw_at s k in
       of_lookup (λ (r : Row). r.own) (λ e. e.row) unknown operators n.op
-      ∙ same_line (λ e. e.row.own_val) (λ e. sort_of (e.make n.x n.y n.fourth)) none boolean (own_sorts n.x n.y n.fourth) n.op w.known
+      ∙ same_line (λ e. e.row.own) (λ e. sort_of (e.make n.x n.y n.fourth)) none boolean (own_sorts n.x n.y n.fourth) n.op w.known
       ∙ sym (of_lookup sort_of (λ e. e.make n.x n.y n.fourth) (Boolean (Constant 0)) operators n.op)
 
   operands : Formed (Suits s k) (node_at s k)

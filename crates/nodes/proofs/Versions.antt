@@ -15,7 +15,7 @@ use Rattle.nodes.proofs.Lookup.{line_of}
 
 -- the operator op is known in the version v
 abbrev pub KnownAt : ℕ → ℕ → Type 0
-KnownAt v op = (¬ ((row_of op).own_val ≡ none)) × KnownIn (row_of op) v
+KnownAt v op = (¬ ((row_of op).own ≡ none)) × KnownIn (row_of op) v
 
 -- the numbers of the page: booleans 0 to b, sequences 16 to q, properties 32 to p
 abbrev pub Page : ℕ → ℕ → ℕ → ℕ → Type 0
@@ -29,11 +29,11 @@ unfolding is_page
 page_tells b q p op = is_or (is_le op b) (is_or (is_and (is_le 16 op) (is_le op q)) (is_and (is_le 32 op) (is_le op p)))
 
 is_known_at : ℕ → ℕ → Bool
-is_known_at v op = not (eqb (row_of op).own_val none) && (leb (row_of op).first v && leb v (row_of op).last)
+is_known_at v op = not (eqb (row_of op).own none) && (leb (row_of op).first v && leb v (row_of op).last)
 
 known_tells : (v op : ℕ) → Tells (is_known_at v op) (KnownAt v op)
 unfolding is_known_at
-known_tells v op = is_and (is_not (is_eq (row_of op).own_val none)) (is_and (is_le (row_of op).first v) (is_le v (row_of op).last))
+known_tells v op = is_and (is_not (is_eq (row_of op).own none)) (is_and (is_le (row_of op).first v) (is_le v (row_of op).last))
 
 -- the two tests agree
 agree : ℕ → ℕ → ℕ → ℕ → ℕ → Bool

@@ -203,7 +203,7 @@ pub record Fourth (kind v : ℕ) : Type 0 where
 
 -- the bytes that a node can have: a known operator, 0 for an unused y, and a right fourth byte
 pub record Written (n : Raw) : Type 0 where
-  pub known : ¬ ((row_of n.op).own_val ≡ none)
+  pub known : ¬ ((row_of n.op).own ≡ none)
   pub unused : (row_of n.op).y ≡ none → n.y ≡ 0
   pub fourth : Fourth (row_of n.op).fourth n.fourth
 

@@ -43,7 +43,7 @@ derived_lines : map (λ e. derived_code e.code) operators ≡ map (λ e. not (le
 unfolding operators derived_code
 derived_lines = refl
 
-derived-codes : (op : ℕ) → ¬ ((row_of op).own_val ≡ none) → derived_code op ≡ not (leb (row_of op).first 2)
+derived-codes : (op : ℕ) → ¬ ((row_of op).own ≡ none) → derived_code op ≡ not (leb (row_of op).first 2)
 derived-codes op k =
     sym (coded_line (λ c r. derived_code c) false op k) ∙ same_line (λ e. derived_code e.code) (λ e. not (leb e.row.first 2)) false false derived_lines op k
     ∙ coded_line (λ c r. not (leb r.first 2)) false op k
@@ -133,9 +133,9 @@ module _ (s : List ℕ) (n : ℕ) (numbers : List ℕ) (ready : Ready s n number
   -- ---- any other is a base node
 
   module _ (v : Raw) (ev : v ≡ raw_at s k) (other : Others v.op) where
-    op_known : ¬ ((row_of v.op).own_val ≡ none)
+    op_known : ¬ ((row_of v.op).own ≡ none)
     unfolding sort_at
-    op_known = subst (λ (r : Raw). ¬ ((row_of r.op).own_val ≡ none)) (sym ev) w.known
+    op_known = subst (λ (r : Raw). ¬ ((row_of r.op).own ≡ none)) (sym ev) w.known
 
     early : leb (row_of v.op).first 2 ≡ true
     early = not-false (leb (row_of v.op).first 2) (sym (derived-codes v.op op_known) ∙ none_of v.op other)

@@ -143,8 +143,8 @@ module _ (s xs : List ℕ) (v : Verdict) (c : Checks s v) where
             property_at_root : (P : Prop Atom) × RootP s P
             property_at_root =
                 let some = built.some in
-                let in-root : root s < count s = omega arith in
-                ⊎_elim (λ e. absurd (right_root e)) (property_in s (count s) built.fit (count s) (root s) in-root in-root) (sorts s (root s) (built.fit (root s) in-root) built.rooted)
+                let in_root : root s < count s = omega arith in
+                ⊎_elim (λ e. absurd (right_root e)) (property_in s (count s) built.fit (count s) (root s) in_root in_root) (sorts s (root s) (built.fit (root s) in_root) built.rooted)
 
             pub judged : (r : Told) → RootTold s xs r → (l : Number.Level) → l.number ≡ root_level r → (t : Bool) → t ≡ has r.tested.bits 0
                 → PlainJudges s xs (record { verdict = v; level = l; tested = t })

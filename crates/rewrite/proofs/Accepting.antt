@@ -31,7 +31,7 @@ use Rattle.rewrite.proofs.Cells.{last_at, stands_sort}
 use Rattle.rewrite.proofs.Ordering.{is_other_lem, before, stands_in, stands_past, found}
 use Rattle.rewrite.proofs.Trees.{sequence_stands, property_stands}
 use Rattle.rewrite.proofs.Forming.{versions, new_fit}
-use Rattle.rewrite.proofs.Places.{uses-new}
+use Rattle.rewrite.proofs.Places.{uses_new}
 
 module _ (s : List ℕ) (sound : Sound s) (clock : ℕ → Ref) (right : Clocks s clock) where
   abbrev t : List ℕ
@@ -85,7 +85,7 @@ module _ (s : List ℕ) (sound : Sound s) (clock : ℕ → Ref) (right : Clocks 
   pub root_last : ν (root s) ≡ m - 1
   root_last =
       let p = root_new in
-      let u = uses-new s ok clock right (m - 1) (omega arith) top_sort in
+      let u = uses_new s ok clock right (m - 1) (omega arith) top_sort in
       let z = unused t (m - 1) m (omega arith) (new_fit s ok sound.known clock right) in
       go (eqb (ν (root s)) (m - 1)) refl (omega arith)
     where
@@ -104,7 +104,7 @@ module _ (s : List ℕ) (sound : Sound s) (clock : ℕ → Ref) (right : Clocks 
 
   once_new : (q : ℕ) → suc q < m → sequence ≤ sort_at t q → uses_of t q m ≡ 1
   once_new q h l =
-      let u = uses-new s ok clock right q (omega arith) l in
+      let u = uses_new s ok clock right q (omega arith) l in
       let r = root_last in
       let e = ne_eqb (ν (root s)) q (λ z. omega arith) in
       let c : ◌≡◌ {A = ℕ} (cond (eqb (ν (root s)) q) 1 0) 0 = rw e in

@@ -32,13 +32,13 @@ use Rattle.writing.proofs.Lengths.{length_new, block_long, laid-long}
 -- ---- the sort of a block's last node
 
 abbrev last_own : List Raw → ℕ
-last_own us = (row_of (get_or us (length us - 1) blank).op).own_val
+last_own us = (row_of (get_or us (length us - 1) blank).op).own
 
-last_sort : (ν : ℕ → ℕ) (ρ : Ref) (at : ℕ) (r : Raw) → eqb (row_of r.op).block 0 ≡ false → last_own (block_under ν ρ at r) ≡ (row_of r.op).own_val
+last_sort : (ν : ℕ → ℕ) (ρ : Ref) (at : ℕ) (r : Raw) → eqb (row_of r.op).block 0 ≡ false → last_own (block_under ν ρ at r) ≡ (row_of r.op).own
 unfolding moved_node row_of lookup operators bytes_of boolean_bytes sequence_bytes property_bytes
 last_sort ν ρ at r e = go (view ρ r.op)
   where
-    go : View ρ r.op → last_own (block_under ν ρ at r) ≡ (row_of r.op).own_val
+    go : View ρ r.op → last_own (block_under ν ρ at r) ≡ (row_of r.op).own
     go (of_none z) = absurd (true≢false (sym z ∙ e))
     go (of_single z q) = ap last_own (single_is ν ρ at r z q)
     go (of_letter c u o) = ap last_own (letter_is ν ρ at r c u o) ∙ ap (λ (p : ℕ). (row_of p).own) (sym o)
@@ -117,7 +117,7 @@ module _ (s : List ℕ) (clock : ℕ → Ref) (fit : (k : ℕ) → k < count s �
     pub cell_at : raw_at (new_table s clock) (start_of s clock k + i) ≡ get_or (block_of s clock k) i blank
     cell_at = raw_at_lem (start_of s clock k + i) cell_in ∙ new_at k i h l
 
-    pub cell_sort : sort_at (new_table s clock) (start_of s clock k + i) ≡ (row_of (get_or (block_of s clock k) i blank).op).own_val
+    pub cell_sort : sort_at (new_table s clock) (start_of s clock k + i) ≡ (row_of (get_or (block_of s clock k) i blank).op).own
     unfolding sort_at
     cell_sort = ap (λ (r : Raw). (row_of r.op).own) cell_at
 

@@ -38,22 +38,22 @@ pub record Blocked (t : List ℕ) (q : ℕ) (r : Raw) : Type 0 where
 -- an operator of every version with an operand x and none y, or with both, that has a block
 abbrev takes : (Bool → Bool) → ℕ → Bool
 takes second op =
-    (not (eqb (row_of op).own_val none) && (leb (row_of op).first 1 && leb base (row_of op).last))
+    (not (eqb (row_of op).own none) && (leb (row_of op).first 1 && leb base (row_of op).last))
     && (not (eqb (row_of op).block 0) && (not (eqb (row_of op).x none) && second (eqb (row_of op).y none)))
 
 -- it is known, and so in each of a table's versions
 abbrev Ever : ℕ → Type 0
-Ever op = (¬ ((row_of op).own_val ≡ none)) × (((row_of op).first ≤ 1) × (base ≤ (row_of op).last))
+Ever op = (¬ ((row_of op).own ≡ none)) × (((row_of op).first ≤ 1) × (base ≤ (row_of op).last))
 
 differs : (a b : ℕ) → Tells (not (eqb a b)) (¬ (a ≡ b))
 differs a b = is_not (is_eq a b)
 
-ever_tells : (op : ℕ) → Tells (not (eqb (row_of op).own_val none) && (leb (row_of op).first 1 && leb base (row_of op).last)) (Ever op)
-ever_tells op = is_and (differs (row_of op).own_val none) (is_and (is_le (row_of op).first 1) (is_le base (row_of op).last))
+ever_tells : (op : ℕ) → Tells (not (eqb (row_of op).own none) && (leb (row_of op).first 1 && leb base (row_of op).last)) (Ever op)
+ever_tells op = is_and (differs (row_of op).own none) (is_and (is_le (row_of op).first 1) (is_le base (row_of op).last))
 
 module _ (t : List ℕ) (versions : Known base (version t)) (q op x : ℕ) where
-  in-version : Ever op → KnownIn (row_of op) (version t)
-  in-version (k, (f, l)) = (let a = versions.0 in omega arith, let b = versions.1 in omega arith)
+  in_version : Ever op → KnownIn (row_of op) (version t)
+  in_version (k, (f, l)) = (let a = versions.0 in omega arith, let b = versions.1 in omega arith)
 
   unary : T (takes (λ b. b) op) → Lower t q (row_of op).x x → Blocked t q (bytes op x 0)
   unary e l =
@@ -62,7 +62,7 @@ module _ (t : List ℕ) (versions : Known base (version t)) (q op x : ℕ) where
         right =
             record {
               known = k.0;
-              in_version = in-version k;
+              in_version = in_version k;
               x = lower t q (row_of op).limit f l;
               y = subst (λ (sort : ℕ). Operand t q sort 1 0) (sym g) (number t q (omega arith));
               fourth = zero_fourth _;
@@ -74,14 +74,14 @@ module _ (t : List ℕ) (versions : Known base (version t)) (q op x : ℕ) where
   binary y e l m =
       let (k, (b, (f, g))) = (is_and (ever_tells op) (is_and (differs (row_of op).block 0) (is_and (differs (row_of op).x none) (differs (row_of op).y none)))).to e in
       record {
-        right = record { known = k.0; in_version = in-version k; x = lower t q (row_of op).limit f l; y = lower t q 1 g m; fourth = zero_fourth _ };
+        right = record { known = k.0; in_version = in_version k; x = lower t q (row_of op).limit f l; y = lower t q 1 g m; fourth = zero_fourth _ };
         block = b;
       }
 
 -- ---- the listed blocks, whose first node is number `at` and whose nodes have their sorts in t
 
 abbrev pub Sorted : List ℕ → ℕ → List Raw → Type 0
-Sorted t at rs = (i : ℕ) → i < length rs → sort_at t (at + i) ≡ (row_of (get_or rs i blank).op).own_val
+Sorted t at rs = (i : ℕ) → i < length rs → sort_at t (at + i) ≡ (row_of (get_or rs i blank).op).own
 
 module _ (t : List ℕ) (versions : Known base (version t)) (at c : ℕ) (hc : Lower t at boolean c) where
   up : (j : ℕ) {sort x : ℕ} → Lower t at sort x → Lower t (at + j) sort x

@@ -89,7 +89,7 @@ module _ (s : List ℕ) (ok : Built s) (known : Known base (version s)) (clock :
     -- ---- a block of its own
 
     sorts : (us : List Raw) → block_of s clock k ≡ us → Sorted t at us
-    sorts us e = subst (λ (us : List Raw). (i : ℕ) → i < length us → sort_at t (at + i) ≡ (row_of (get_or us i blank).op).own_val) e (λ i l. cell_sort s clock ok.fit k i h l)
+    sorts us e = subst (λ (us : List Raw). (i : ℕ) → i < length us → sort_at t (at + i) ≡ (row_of (get_or us i blank).op).own) e (λ i l. cell_sort s clock ok.fit k i h l)
 
     module _ (c : ℕ) (ec : clock k ≡ on_r c) where
       -- of an operator whose row is known

@@ -53,9 +53,9 @@ module _ (q a c : ℕ) (off : ind (eqb c q) ≡ 0) where
   at_first_lem : ind (eqb (a + 0) q) ≡ ind (eqb a q)
   at_first_lem = rw (add-zero a)
 
-  letter-hits : (b : ℕ) → ind (eqb (a + 0) q) ≡ 0 → ind (eqb (a + 1) q) ≡ 0 → hits_in q (map bytes_of (letter_block a c b)) ≡ inner a 9 q + ind (eqb b q)
+  letter_hits : (b : ℕ) → ind (eqb (a + 0) q) ≡ 0 → ind (eqb (a + 1) q) ≡ 0 → hits_in q (map bytes_of (letter_block a c b)) ≡ inner a 9 q + ind (eqb b q)
   unfolding hits_in hits_by hits_of row_of lookup operators bytes_of boolean_bytes sequence_bytes property_bytes sum
-  letter-hits b f g = let e = spread a q 8 in let z = at_first_lem in omega arith
+  letter_hits b f g = let e = spread a q 8 in let z = at_first_lem in omega arith
 
   next_hits : (p : ℕ) → ind (eqb (a + 0) q) ≡ 0 → hits_in q (map bytes_of (next_block a c p)) ≡ inner a 14 q + ind (eqb p q)
   unfolding hits_in hits_by hits_of row_of lookup operators bytes_of boolean_bytes sequence_bytes property_bytes sum
@@ -96,7 +96,7 @@ module _ (q : ℕ) (ν : ℕ → ℕ) (at : ℕ) (r : Raw) where
 
   -- the booleans of the block are not q
   abbrev Off : List Raw → Type 0
-  Off us = (i : ℕ) → i < length us → (row_of (get_or us i blank).op).own_val ≡ boolean → ind (eqb (at + i) q) ≡ 0
+  Off us = (i : ℕ) → i < length us → (row_of (get_or us i blank).op).own ≡ boolean → ind (eqb (at + i) q) ≡ 0
 
   abbrev Told : List Raw → Type 0
   Told us = Off us → hits_in q us ≡ inner at (length us) q + held r.op
@@ -111,7 +111,7 @@ module _ (q : ℕ) (ν : ℕ → ℕ) (at : ℕ) (r : Raw) where
       go (of_letter c e o) =
           subst Told (sym (letter_is ν ρ at r c e o))
           (λ off.
-          let z = letter-hits q at (ν c) (f c e) (ν r.x) (off 0 (omega arith) refl) (off 1 (omega arith) refl) in
+          let z = letter_hits q at (ν c) (f c e) (ν r.x) (off 0 (omega arith) refl) (off 1 (omega arith) refl) in
           let w : held r.op ≡ ind (stands_for r.x) + 0 = ap held o in
           omega arith)
       go (of_next c e o) =

@@ -23,7 +23,7 @@ use Rattle.encoding.specs.Encoding.{blank}
 use Rattle.writing.specs.Tables.{block_of, laid, new_nodes, new_table}
 use Rattle.writing.proofs.Lengths.{block_long, length_new}
 use Rattle.rewrite.proofs.Cells.{raw_at_lem, cell_sort, stands_sort}
-use Rattle.rewrite.proofs.Tallies.{uses-sum, held_by, held_once}
+use Rattle.rewrite.proofs.Tallies.{uses_sum, held_by, held_once}
 use Rattle.rewrite.proofs.Tiling.{within, in_one, more_within}
 use Rattle.rewrite.proofs.Hits.{hits_by, hits_in, inner, hits_append, hits_sum, under_hits}
 
@@ -59,10 +59,10 @@ module _ (s : List ℕ) (ok : Built s) (clock : ℕ → Ref) (right : Clocks s c
   abbrev long : ℕ → ℕ
   long = length_of s clock
 
-  uses-hits : (q : ℕ) → uses_of t q (new_count s clock) ≡ sum (λ k. hits_in q (block_of s clock k)) (count s)
+  uses_hits : (q : ℕ) → uses_of t q (new_count s clock) ≡ sum (λ k. hits_in q (block_of s clock k)) (count s)
   unfolding hits_by
-  uses-hits q =
-      uses-sum t q (new_count s clock)
+  uses_hits q =
+      uses_sum t q (new_count s clock)
       ∙ sum_same (places_of t q) (λ j. hits_by q (get_or (new_nodes s clock) j blank)) (new_count s clock) (λ j l. ap (hits_by q) (raw_at_lem s clock ok.fit j l))
       ∙ ap (sum (λ j. hits_by q (get_or (new_nodes s clock) j blank))) (sym (length_new s clock ok.fit))
       ∙ hits_sum q (new_nodes s clock)
@@ -118,7 +118,7 @@ module _ (s : List ℕ) (ok : Built s) (clock : ℕ → Ref) (right : Clocks s c
         let inside : ℕ → ℕ = λ k. inner (at k) (long k) q in
         let places : ℕ → ℕ = λ k. cond (not (is_clock s k)) (held_by s stands_for k) 0 in
         let nodes : ℕ → ℕ = λ k. cond (not (is_clock s k)) (ind (stands_for k)) 0 in
-        let a = uses-hits q in
+        let a = uses_hits q in
         let b = sum_same (λ k. hits_in q (block_of s clock k)) (λ k. inside k + places k) (count s) block_hits in
         let c = sum_plus inside places (count s) in
         let d = held_once s ok stands_for for_high for_operand in
@@ -128,6 +128,6 @@ module _ (s : List ℕ) (ok : Built s) (clock : ℕ → Ref) (right : Clocks s c
         omega arith
 
   -- each sequence or property node but the root stands in one operand place, and the root in none
-  pub uses-new : (q : ℕ) → q < new_count s clock → sequence ≤ sort_at (new_table s clock) q
+  pub uses_new : (q : ℕ) → q < new_count s clock → sequence ≤ sort_at (new_table s clock) q
       → uses_of (new_table s clock) q (new_count s clock) + cond (eqb (number_of s clock (root s)) q) 1 0 ≡ 1
-  uses-new q h high = all_once q high h
+  uses_new q h high = all_once q high h

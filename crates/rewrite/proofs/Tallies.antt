@@ -17,10 +17,10 @@ use Rattle.numbers.specs.Numbers.{sum}
 use Rattle.numbers.proofs.Sums.{sum_zero, sum_same, sum_plus, sum_split, sum_swap, sum_one}
 
 -- the uses of a node are a sum over the nodes
-pub uses-sum : (s : List ℕ) (x n : ℕ) → uses_of s x n ≡ sum (places_of s x) n
+pub uses_sum : (s : List ℕ) (x n : ℕ) → uses_of s x n ≡ sum (places_of s x) n
 unfolding uses_of sum
-uses-sum s x zero = refl
-uses-sum s x (suc n) = ap (λ (a : ℕ). a + places_of s x n) (uses-sum s x n)
+uses_sum s x zero = refl
+uses_sum s x (suc n) = ap (λ (a : ℕ). a + places_of s x n) (uses_sum s x n)
 
 -- 1 where the byte v is an operand, of a sort, and passes the test
 unfoldable pub held_in : (ℕ → Bool) → ℕ → ℕ → ℕ
@@ -81,7 +81,7 @@ module _ (s : List ℕ) (ok : Built s) (A : ℕ → Bool) (high : (x : ℕ) → 
   held_all : sum (λ x. cond (A x) (uses_of s x n) 0) n ≡ sum (held_by s A) n
   held_all =
       sum_same (λ x. cond (A x) (uses_of s x n) 0) (λ x. sum (λ k. cond (A x) (places_of s x k) 0) n) n
-      (λ x l. ap (λ (a : ℕ). cond (A x) a 0) (uses-sum s x n) ∙ cond-sum (A x) (places_of s x) n)
+      (λ x l. ap (λ (a : ℕ). cond (A x) a 0) (uses_sum s x n) ∙ cond-sum (A x) (places_of s x) n)
       ∙ sum_swap (λ x k. cond (A x) (places_of s x k) 0) n n
       ∙ sum_same (λ k. sum (λ x. cond (A x) (places_of s x k) 0) n) (held_by s A) n places_held
 
@@ -89,8 +89,8 @@ module _ (s : List ℕ) (ok : Built s) (A : ℕ → Bool) (high : (x : ℕ) → 
   root_unused = unused s (root s) n (omega arith) ok.fit
 
   -- a node that passes is in one place, or is the root
-  used-once : (x : ℕ) → x < n → cond (A x) (uses_of s x n) 0 + cond (eqb (root s) x) (ind (A x)) 0 ≡ ind (A x)
-  used-once x h = go (A x) refl (eqb (root s) x) refl
+  used_once : (x : ℕ) → x < n → cond (A x) (uses_of s x n) 0 + cond (eqb (root s) x) (ind (A x)) 0 ≡ ind (A x)
+  used_once x h = go (A x) refl (eqb (root s) x) refl
     where
       go : (a : Bool) → A x ≡ a → (b : Bool) → eqb (root s) x ≡ b → cond a (uses_of s x n) 0 + cond b (ind a) 0 ≡ ind a
       go false e b f = let z = unless_zero b in omega arith
@@ -106,7 +106,7 @@ module _ (s : List ℕ) (ok : Built s) (A : ℕ → Bool) (high : (x : ℕ) → 
       let l = ok.some in
       let q = sum_one (λ x. ind (A x)) (root s) n (omega arith) in
       let r = sum_plus (λ x. cond (A x) (uses_of s x n) 0) (λ x. cond (eqb (root s) x) (ind (A x)) 0) n in
-      let t = sum_same (λ x. cond (A x) (uses_of s x n) 0 + cond (eqb (root s) x) (ind (A x)) 0) (λ x. ind (A x)) n used-once in
+      let t = sum_same (λ x. cond (A x) (uses_of s x n) 0 + cond (eqb (root s) x) (ind (A x)) 0) (λ x. ind (A x)) n used_once in
       omega arith
 
   -- a clock node holds what passes just where it passes itself

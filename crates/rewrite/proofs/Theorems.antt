@@ -76,19 +76,19 @@ module _ (s d : List ℕ) (r : Rewriting) (d' : List ℕ) (w : Rewrites s d r d'
   abbrev pub output : List ℕ
   output = take (6 + 4 * r.count) d'
 
-  input-checks : Checks s accepted
-  input-checks = table-accepted s (length d) r.verdict w.answer z
+  input_checks : Checks s accepted
+  input_checks = table-accepted s (length d) r.verdict w.answer z
 
   pub output_is : (clock : ℕ → Ref) → (r.count ≡ new_count s clock) × (d' ≡ new_table s clock ++ drop (6 + 4 * new_count s clock) d) → new_table s clock ≡ output
   output_is clock (e, f) =
-      let l = length-table s clock (sound s accepted input-checks refl).formed.fit in
+      let l = length-table s clock (sound s accepted input_checks refl).formed.fit in
       sym (rw (e, f) (take_at (new_table s clock) (drop (6 + 4 * new_count s clock) d) (6 + 4 * new_count s clock) (omega arith)))
 
   pub output_keeps : Keeps s output
-  output_keeps = let (clock, right, q) = w.accepted z in subst (Keeps s) (output_is clock q) (rewriting_keeps s accepted input-checks refl clock right)
+  output_keeps = let (clock, right, q) = w.accepted z in subst (Keeps s) (output_is clock q) (rewriting_keeps s accepted input_checks refl clock right)
 
   pub output_checks : Checks output accepted
   output_checks =
       let (clock, right, q) = w.accepted z in
       subst (λ (t : List ℕ). Checks t accepted) (output_is clock q)
-      (new_checks s (sound s accepted input-checks refl) clock right (few_new s (length d) r.verdict w.answer z clock right))
+      (new_checks s (sound s accepted input_checks refl) clock right (few_new s (length d) r.verdict w.answer z clock right))

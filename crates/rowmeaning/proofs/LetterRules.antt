@@ -102,14 +102,14 @@ module _ {A S : Type 0} (reads : A → S → Bool) (xs : List S) where
   no_ticks κ t ht short i =
       is_not (is_some_at 0 64 (λ m q. let l = tick_in κ t ht m q.0 in (omega arith, omega arith)) (λ m u v. is_and (is_test (t m)) (is_le i m)))
 
-  letter-onward : (b : Bexp A) (t : ℕ → Bool) (κ : Clock A) → TicksOf reads xs κ t → length xs ≤ longest → (i : ℕ) → i ≤ length xs
+  letter_onward : (b : Bexp A) (t : ℕ → Bool) (κ : Clock A) → TicksOf reads xs κ t → length xs ≤ longest → (i : ℕ) → i ≤ length xs
       → Tells (not (some (λ m. t m && leb i m) 0 64)) (Onward reads xs κ (one b) i)
-  letter-onward b t free ht short i h =
+  letter_onward b t free ht short i h =
       is_like
       (is_map (no_ticks free t ht short i) (λ f. ⊎_elim (λ e. e) (λ l. absurd (f (i, (free_ticks t ht i l, omega arith)))) (eq-or-lt_of_le h))
       (λ e q. let l = tick_in free t ht q.0 q.1.0 in let g = q.1.1 in omega arith))
       (onward_one reads xs b i h)
-  letter-onward b t (on c) ht short i h =
+  letter_onward b t (on c) ht short i h =
       let hc = clock_valued c t ht in
       is_like
       (is_map (no_ticks (on c) t ht short i)
@@ -127,4 +127,4 @@ module _ {A S : Type 0} (reads : A → S → Bool) (xs : List S) where
       → SequenceRow reads xs κ row (one b)
   letter_under κ {b} {B} {t} {row} short ht hb w =
       bits_row reads xs κ (one b) row (letter_bit B t) (λ i. not (some (λ m. t m && leb i m) 0 64)) short w
-      (λ i h j. letter_ends b B hb t κ ht i j h) (λ i h. letter-onward b t κ ht short i h)
+      (λ i h j. letter_ends b B hb t κ ht i j h) (λ i h. letter_onward b t κ ht short i h)

@@ -60,8 +60,8 @@ module _ {A S : Type 0} (reads : A → S → Bool) (xs : List S) (κ : Clock A) 
   from_tail : (r : Seq A) (t : Tail) (i j : ℕ) → j ≤ length xs → Match reads κ r (word xs t) i j → Inside reads xs κ r i j
   from_tail r t i j h m = match_any reads κ r xs t none i j h m
 
-  inside-tells : (r : Seq A) (i j : ℕ) → i ≤ length xs → j ≤ length xs → Tells (match_b reads κ r (full xs) i j) (Inside reads xs κ r i j)
-  inside-tells r i j h l = is_map (is_match reads κ r (full xs) i j) (from_tail r tops i j l) (to_tail r tops i j h)
+  inside_tells : (r : Seq A) (i j : ℕ) → i ≤ length xs → j ≤ length xs → Tells (match_b reads κ r (full xs) i j) (Inside reads xs κ r i j)
+  inside_tells r i j h l = is_map (is_match reads κ r (full xs) i j) (from_tail r tops i j l) (to_tail r tops i j h)
 
   -- ---- matches that go on among letters ⊤
 
@@ -77,8 +77,8 @@ module _ {A S : Type 0} (reads : A → S → Bool) (xs : List S) (κ : Clock A) 
       agree (onward_tells (cat r s) i h)
       (is_or
       (is_some_at i (suc (n - i)) (λ m q. let l = ends_inside r i m h q.0 in (starts-below r i m q.0, omega arith))
-      (λ m u v. is_and (inside-tells r i m h (omega arith)) (onward_tells s m (omega arith))))
-      (is_and (onward_tells r i h) (is_or (inside-tells s n n (omega arith) (omega arith)) (onward_tells s n (omega arith)))))
+      (λ m u v. is_and (inside_tells r i m h (omega arith)) (onward_tells s m (omega arith))))
+      (is_and (onward_tells r i h) (is_or (inside_tells s n n (omega arith) (omega arith)) (onward_tells s n (omega arith)))))
 
   -- here the second match starts at the last letter of the first
   pub onward_fuse : (r s : Seq A) (i : ℕ) → i ≤ length xs
@@ -89,7 +89,7 @@ module _ {A S : Type 0} (reads : A → S → Bool) (xs : List S) (κ : Clock A) 
       (is_or
       (is_some_at i (length xs - i) (λ l q. let e = ends_inside r i (suc l) h q.0.0 in let u = q.0.1 in (omega arith, omega arith))
       (λ l u v.
-      is_and (is_map (inside-tells r i (suc l) h (omega arith)) (λ m. (m, omega arith)) (λ q. q.0)) (onward_tells s l (omega arith))))
+      is_and (is_map (inside_tells r i (suc l) h (omega arith)) (λ m. (m, omega arith)) (λ q. q.0)) (onward_tells s l (omega arith))))
       (is_and (onward_tells r i h) (onward_tells s (length xs) (omega arith))))
 
   pub onward_alt : (r s : Seq A) (i : ℕ) → i ≤ length xs → Onward reads xs κ (alt r s) i ↔ (Onward reads xs κ r i ⊎ Onward reads xs κ s i)
@@ -110,7 +110,7 @@ module _ {A S : Type 0} (reads : A → S → Bool) (xs : List S) (κ : Clock A) 
       (is_or (onward_tells r i h)
       (is_some_at i (suc (n - i))
       (λ m q. let l = ends_inside (plus r) i m h q.0 in (starts-below (plus r) i m q.0, omega arith))
-      (λ m u v. is_and (inside-tells (plus r) i m h (omega arith)) (onward_tells r m (omega arith)))))
+      (λ m u v. is_and (inside_tells (plus r) i m h (omega arith)) (onward_tells r m (omega arith)))))
       (⊎_elim inr inl) (⊎_elim inr inl))
 
   -- ---- properties
@@ -156,7 +156,7 @@ module _ {A S : Type 0} (reads : A → S → Bool) (xs : List S) (κ : Clock A) 
       let a =
       agree (is_ans reads κ (implies r P) xs t i h)
       (is_and
-      (is_every i (n - i) (λ p u v. is_imp (inside-tells r i (suc p) h (omega arith)) (is_ans reads κ P xs t p (omega arith))))
+      (is_every i (n - i) (λ p u v. is_imp (inside_tells r i (suc p) h (omega arith)) (is_ans reads κ P xs t p (omega arith))))
       (is_imp (is_test (botted t)) (is_imp (onward_tells r i h) (is_ans reads κ P xs t n (omega arith))))) in (
         λ p. (λ l u m. let e = ends_inside r i (suc l) h m in (a.0 p).0 l u (omega arith) m, (a.0 p).1),
         λ q. a.1 (λ l u v m. q.0 l u m, q.1),

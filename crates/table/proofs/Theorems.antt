@@ -51,8 +51,8 @@ module _ (s : List ℕ) (ok : Built s) where
       (λ e. let (P, d) = property_in s (count s) ok.fit (count s) k h h e in (prop P, t_prop d))
       (sorts s k (ok.fit k h) b)
 
-  in-root : root s < count s
-  in-root = let l = ok.some in omega arith
+  in_root : root s < count s
+  in_root = let l = ok.some in omega arith
 
   clocked_in : {k : ℕ} {ρ : Ref} → ClockOf s k ρ → k < count s
   clocked_in c = clock-inside s ok c
@@ -113,7 +113,7 @@ module _ (newest : ℕ) (s : List ℕ) (v : Verdict) (c : ChecksTo newest s v) (
 
   -- the root stands for exactly one tree, a sequence or a property
   pub one_root : ExactlyOne (Tree Atom) (TreeAt (node_at s) (root s))
-  one_root = let (t, d) = tree_at s ok (root s) (in-root s ok) ok.rooted in (t, d, λ b f. tree_unique d f)
+  one_root = let (t, d) = tree_at s ok (root s) (in_root s ok) ok.rooted in (t, d, λ b f. tree_unique d f)
 
   -- and its clocks are as the page says: each node's tree occurs in the root's, read there under the node's clock
   pub clocks_as_read : (t : Tree Atom) → TreeAt (node_at s) (root s) t → (k : ℕ) (ρ : Ref) (κ : Clock Atom) (q : Tree Atom)
@@ -122,7 +122,7 @@ module _ (newest : ℕ) (s : List ℕ) (v : Verdict) (c : ChecksTo newest s v) (
 
   -- a property at the root is accepted by the meaning
   pub accepted_root : (P : Prop Atom) → PropertyAt (node_at s) (root s) P → Accepted reading free P
-  accepted_root P d = accepted_at s (count s) ok.fit (sound newest s v c z).solid d (in-root s ok) free
+  accepted_root P d = accepted_at s (count s) ok.fit (sound newest s v c z).solid d (in_root s ok) free
 
 -- ---- and of one that is refused with 9
 

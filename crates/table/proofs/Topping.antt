@@ -138,9 +138,9 @@ module _ (s : List ℕ) (n : ℕ) (fit : (k : ℕ) → k < n → WellFormed s k)
         go (Property (Defined (StrongNext x))) t = absurd t
 
   -- one letter ⊤ matches any boolean, 0 too
-  letter-topped : (κ : Clock Atom) (b : Bexp Atom) → Topped reading κ (one b)
+  letter_topped : (κ : Clock Atom) (b : Bexp Atom) → Topped reading κ (one b)
   unfolding topped_b
-  letter-topped κ b = (is_topped reading κ (one b)).to (passed (ap (λ (t : Tops). t.some) (tested_one κ b)))
+  letter_topped κ b = (is_topped reading κ (one b)).to (passed (ap (λ (t : Tops). t.some) (tested_one κ b)))
 
   -- ---- a property with no hollow node is accepted
 
@@ -169,10 +169,10 @@ module _ (s : List ℕ) (n : ℕ) (fit : (k : ℕ) → k < n → WellFormed s k)
     accepted_at {k} (p_followed e d f) h κ = let (g, j) = down s k (fit k h) e in (asked_topped h e by_followed d κ, accepted_at f (omega arith) κ)
     accepted_at {k} (p_followed_next e d f) h κ =
         let (g, j) = down s k (fit k h) e in (asked_topped h e by_followed_next d κ, accepted_at f (omega arith) κ)
-    accepted_at {k} (p_always e d) h κ = let g = down s k (fit k h) e in (accepted_at d (omega arith) κ, letter-topped κ (const false))
-    accepted_at {k} (p_eventually e d) h κ = let g = down s k (fit k h) e in (accepted_at d (omega arith) κ, letter-topped κ (const false))
+    accepted_at {k} (p_always e d) h κ = let g = down s k (fit k h) e in (accepted_at d (omega arith) κ, letter_topped κ (const false))
+    accepted_at {k} (p_eventually e d) h κ = let g = down s k (fit k h) e in (accepted_at d (omega arith) κ, letter_topped κ (const false))
     accepted_at {k} (p_strong_until e d f) h κ =
         let (g, j) = down s k (fit k h) e in
         let b = accepted_at f (omega arith) κ in
-        ((accepted_at d (omega arith) κ, b), (b, letter-topped κ (const false)))
+        ((accepted_at d (omega arith) κ, b), (b, letter_topped κ (const false)))
     accepted_at {k} (p_strong_next e d) h κ = let g = down s k (fit k h) e in accepted_at d (omega arith) κ

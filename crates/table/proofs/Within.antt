@@ -39,36 +39,36 @@ tree_unique (t_prop d) (t_seq e) = absurd (not_both e d)
 
 -- ---- the operands of a derived node, some steps down in its definition
 
-within-within : {κ μ ν : Clock Atom} {t p q : Tree Atom} → Within κ t μ p → Within μ p ν q → Within κ t ν q
+within-within : {κ μ : Clock Atom} {t p : Tree Atom} {ν : Clock Atom} {q : Tree Atom} → Within κ t μ p → Within μ p ν q → Within κ t ν q
 within-within h whole = h
 within-within h (part k e) = part (within-within h k) e
 
 module _ {κ : Clock Atom} where
-  in-times : (r : Seq Atom) (m : ℕ) → Within κ (seq (times r m)) κ (seq r)
+  in_times : (r : Seq Atom) (m : ℕ) → Within κ (seq (times r m)) κ (seq r)
   unfolding times
-  in-times r zero = part whole empty_x
-  in-times r (suc m) = part whole cat_y
+  in_times r zero = part whole empty_x
+  in_times r (suc m) = part whole cat_y
 
-  in-range : (r : Seq Atom) (m n : ℕ) → Within κ (seq (range r m n)) κ (seq r)
+  in_range : (r : Seq Atom) (m n : ℕ) → Within κ (seq (range r m n)) κ (seq r)
   unfolding range
-  in-range r m zero = in-times r m
-  in-range r m (suc n) = go (ltb m (suc n))
+  in_range r m zero = in_times r m
+  in_range r m (suc n) = go (ltb m (suc n))
     where
       go : (b : Bool) → Within κ (seq (cond b (alt (range r m n) (times r (suc n))) (times r m))) κ (seq r)
-      go true = within-within (part whole alt_y) (in-times r (suc n))
-      go false = in-times r m
+      go true = within-within (part whole alt_y) (in_times r (suc n))
+      go false = in_times r m
 
-  in-delay-x : (r s : Seq Atom) (m n : ℕ) → Within κ (seq (delay r s m n)) κ (seq r)
+  in_delay_x : (r s : Seq Atom) (m n : ℕ) → Within κ (seq (delay r s m n)) κ (seq r)
   unfolding delay
-  in-delay-x r s m zero = part whole fuse_x
-  in-delay-x r s zero (suc n) = part (part whole alt_x) fuse_x
-  in-delay-x r s (suc m) (suc n) = part (part whole cat_x) cat_x
+  in_delay_x r s m zero = part whole fuse_x
+  in_delay_x r s zero (suc n) = part (part whole alt_x) fuse_x
+  in_delay_x r s (suc m) (suc n) = part (part whole cat_x) cat_x
 
-  in-delay-y : (r s : Seq Atom) (m n : ℕ) → Within κ (seq (delay r s m n)) κ (seq s)
+  in_delay_y : (r s : Seq Atom) (m n : ℕ) → Within κ (seq (delay r s m n)) κ (seq s)
   unfolding delay
-  in-delay-y r s m zero = part whole fuse_y
-  in-delay-y r s zero (suc n) = part (part whole alt_x) fuse_y
-  in-delay-y r s (suc m) (suc n) = part whole cat_y
+  in_delay_y r s m zero = part whole fuse_y
+  in_delay_y r s zero (suc n) = part (part whole alt_x) fuse_y
+  in_delay_y r s (suc m) (suc n) = part whole cat_y
 
 module _ (s : List ℕ) where
   -- ---- from a node to its part
@@ -108,10 +108,10 @@ module _ (s : List ℕ) where
       sequence_enters (s_plus e f) = by_place e (λ _. put plus_x (t_seq f) (unique_c c (handing e))) (λ t _. absurd t)
       sequence_enters (s_clock e b f) = by_place e (λ t _. absurd t) (λ _. put clocked_x (t_seq f) (unique_c (c_on b) (handing e)))
       sequence_enters (s_repeated {m = m} {n = n} {r = r} e f) =
-          by_place e (λ _. deep (in-range r m n) (t_seq f) (unique_c c (handing e))) (λ t _. absurd t)
+          by_place e (λ _. deep (in_range r m n) (t_seq f) (unique_c c (handing e))) (λ t _. absurd t)
       sequence_enters (s_delayed {m = m} {n = n} {r = r} {s = u} e f g) =
           let h = unique_c c (handing e) in
-          by_place e (λ _. deep (in-delay-x r u m n) (t_seq f) h) (λ _. deep (in-delay-y r u m n) (t_seq g) h)
+          by_place e (λ _. deep (in_delay_x r u m n) (t_seq f) h) (λ _. deep (in_delay_y r u m n) (t_seq g) h)
       sequence_enters (s_goto e b) = by_place e (λ t _. absurd t) (λ t _. absurd t)
       sequence_enters (s_nonconsecutive e b) = by_place e (λ t _. absurd t) (λ t _. absurd t)
 

@@ -31,7 +31,7 @@ use Rattle.writing.specs.Tables.{headed, block_of, laid, new_nodes, new_table}
 single : Entry → Bool
 single e = listed e.code || leb e.row.block 1
 
-few_else : (op : ℕ) → ¬ ((row_of op).own_val ≡ none) → listed op ≡ false → (row_of op).block ≤ 1
+few_else : (op : ℕ) → ¬ ((row_of op).own ≡ none) → listed op ≡ false → (row_of op).block ≤ 1
 unfolding operators single
 few_else op k f =
     let (e, r, o, t) = line_of single tt op k in
@@ -39,7 +39,7 @@ few_else op k f =
     subst (λ (u : Row). u.block ≤ 1) (sym r) (⊎_elim (λ q. absurd (failed (is_test (listed e.code)) (ap listed (sym o) ∙ f) q)) (λ l. l) z)
 
 -- one that is single has a block of one node, if any
-one_long : (ρ : Ref) (op : ℕ) → ¬ ((row_of op).own_val ≡ none) → ¬ ((row_of op).block ≡ 0) → Single ρ op → length_under ρ (row_of op).block ≡ 1
+one_long : (ρ : Ref) (op : ℕ) → ¬ ((row_of op).own ≡ none) → ¬ ((row_of op).block ≡ 0) → Single ρ op → length_under ρ (row_of op).block ≡ 1
 unfolding length_under
 one_long free_r op k z q = omega arith
 one_long (on_r c) op k z (inl q) = absurd (not_free c q)
@@ -50,7 +50,7 @@ unfolding length_under
 of_listed ρ c op n m e o q = rw (e, o) q
 
 -- a node's block has the length that its row and its clock say
-under_long : (ν : ℕ → ℕ) (ρ : Ref) (at : ℕ) (r : Raw) → ¬ ((row_of r.op).own_val ≡ none) → length (block_under ν ρ at r) ≡ length_under ρ (row_of r.op).block
+under_long : (ν : ℕ → ℕ) (ρ : Ref) (at : ℕ) (r : Raw) → ¬ ((row_of r.op).own ≡ none) → length (block_under ν ρ at r) ≡ length_under ρ (row_of r.op).block
 unfolding row_of lookup operators
 under_long ν ρ at r k = go (view ρ r.op)
   where

@@ -2,7 +2,7 @@
 use native.Mathlib.Omega.{arith}
 use mathlib.Core.Path.{refl}
 use borrow.Author.Rules.{rules}
-use Rattle.judge.proofs.Judging.{four_fit, used-fit, used-within, used-bytes, fits, lays_refused, lays_rows}
+use Rattle.judge.proofs.Judging.{four_fit, used_fit, used_within, used_bytes, fits, lays_refused, lays_rows}
 use Rattle.judge.proofs.lay.Statement.{statement}
 use Rattle.judge.proofs.lay.Tie as tie
 
@@ -20,9 +20,9 @@ lay-spec =
     (λ c. search rules)
     (λ c. lays_refused _ _ _ _ _ _ _ _ (settled c.before).settle.ensures c.if1.true)
     (λ c. four_fit _ _ _ _ _ _ _ _ (settled c.before).settle.ensures c.if1.false)
-    (λ c. used-fit _ _ _ _ _ _ _ _ (settled c.before).settle.ensures c.if1.false)
-    (λ c. let l = used-within _ _ _ _ _ _ _ _ (settled c.before).settle.ensures c.if1.false in omega arith)
-    (λ c. let e = c.before in used-bytes _ _ _ _ _ _ _ _ (settled e.before).settle.ensures e.if1.false)
+    (λ c. used_fit _ _ _ _ _ _ _ _ (settled c.before).settle.ensures c.if1.false)
+    (λ c. let l = used_within _ _ _ _ _ _ _ _ (settled c.before).settle.ensures c.if1.false in omega arith)
+    (λ c. let e = c.before in used_bytes _ _ _ _ _ _ _ _ (settled e.before).settle.ensures e.if1.false)
     (λ c κs. let e = c.before.before in fits _ _ _ _ _ _ _ _ (settled e.before).settle.ensures e.if1.false _ _ refl refl)
     (λ c. search rules)
     (λ c. search rules)
