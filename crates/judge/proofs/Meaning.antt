@@ -161,7 +161,7 @@ module _ (t xs : List ℕ) (c : Checks t accepted) (plain : (k : ℕ) → k < co
       let e : share * x + 0 ≡ share * x = omega arith in
       subst (λ m. Valued reading (pairs xs) b (has (get_or (rows_of t xs k) m 0))) e (values r)
 
-  boolean_means : {D : List ℕ} {k : ℕ} {b : Bexp Atom} → BooleanAt (node_at t) k b → Placed D k → BooleanRow reading (pairs xs) (word_in D k) b
+  boolean_means : {k : ℕ} {b : Bexp Atom} {D : List ℕ} → BooleanAt (node_at t) k b → Placed D k → BooleanRow reading (pairs xs) (word_in D k) b
   boolean_means {k = k} (b_const {v = v} e) w = boolean_row short (boolean_laid w e) (constant_valued xs (at k) v)
   boolean_means {k = k} (b_sig {x = x} e) w = boolean_row short (boolean_laid w e) (signal_valued xs (at k) x)
   boolean_means {k = k} (b_risen {x = x} e) w = boolean_row short (boolean_laid w e) (risen_valued xs (at k) x)
@@ -175,7 +175,7 @@ module _ (t xs : List ℕ) (c : Checks t accepted) (plain : (k : ℕ) → k < co
       let (f, g) = operands w e in
       boolean_row short (boolean_laid w e) (or_valued xs (at k) {x = x} (operand k x (boolean_means p (below w f))) {y = y} (operand k y (boolean_means q (below w g))))
 
-  sequence_means : {D : List ℕ} {k : ℕ} {r : Seq Atom} → SequenceAt (node_at t) k r → Placed D k → SequenceRow reading (pairs xs) free (word_in D k) r
+  sequence_means : {k : ℕ} {r : Seq Atom} {D : List ℕ} → SequenceAt (node_at t) k r → Placed D k → SequenceRow reading (pairs xs) free (word_in D k) r
   sequence_means (s_one e p) w = let f = operands w e in letter_row reading (pairs xs) _ brief _ _ _ (values (boolean_means p (below w f))) (sequence-laid w e)
   sequence_means (s_cat e p q) w =
       let (f, g) = operands w e in then_row reading (pairs xs) free _ brief _ _ _ _ _ (sequence_means p (below w f)) (sequence_means q (below w g)) (sequence-laid w e)
@@ -191,7 +191,7 @@ module _ (t xs : List ℕ) (c : Checks t accepted) (plain : (k : ℕ) → k < co
   sequence_means (s_goto e p) w = absurd (no_derived w.inside e)
   sequence_means (s_nonconsecutive e p) w = absurd (no_derived w.inside e)
 
-  property_means : {D : List ℕ} {k : ℕ} {P : Prop Atom} → PropertyAt (node_at t) k P → Placed D k → PropertyRow reading (pairs xs) free (word_in D k) P
+  property_means : {k : ℕ} {P : Prop Atom} {D : List ℕ} → PropertyAt (node_at t) k P → Placed D k → PropertyRow reading (pairs xs) free (word_in D k) P
   property_means (p_strong e p) w = let f = operands w e in by_rule (property-laid w e) (strong_says reading (pairs xs) free brief _ _ (sequence_means p (below w f)))
   property_means (p_weak e p) w = let f = operands w e in by_rule (property-laid w e) (weak_says reading (pairs xs) free brief _ _ (sequence_means p (below w f)))
   property_means (p_neg e p) w = let f = operands w e in by_rule (property-laid w e) (negated_says reading (pairs xs) free (says (property_means p (below w f))))

@@ -48,17 +48,17 @@ module _ {A S : Type 0} (reads : A → S → Bool) (xs : List S) (κ : Clock A) 
           same_word (suc (length xs)) (λ k u. same_test (p.on k (le_of_suc-le-suc u)) (q.on k (le_of_suc-le-suc u))) p.past q.past
 
   same_property : (P : Prop A) → PropertyRow reads xs κ f P → PropertyRow reads xs κ g P → (i : ℕ) → i < share → f i ≡ g i
-  same_property P p q = elim [
-    | zero ↦ λ l. at none
-    | suc i ↦ elim i [
-      | zero ↦ λ l. at tops
-      | suc i ↦ elim i [ zero ↦ λ l. at bots | suc i ↦ λ l. p.zero (suc (suc (suc i))) (omega arith) l ∙ sym (q.zero (suc (suc (suc i))) (omega arith) l) ]
-    ]
-  ]
+  same_property P p q = go
     where
       at : (t : Tail) → f (word_of t) ≡ g (word_of t)
       at t =
           same_word (suc (length xs)) (λ k u. same_test (p.answers t k (le_of_suc-le-suc u)) (q.answers t k (le_of_suc-le-suc u))) (p.past t) (q.past t)
+
+      go : (i : ℕ) → i < share → f i ≡ g i
+      go zero l = at none
+      go (suc zero) l = at tops
+      go (suc (suc zero)) l = at bots
+      go (suc (suc (suc i))) l = p.zero (suc (suc (suc i))) (omega arith) l ∙ sym (q.zero (suc (suc (suc i))) (omega arith) l)
 
 -- no second workspace fits
 pub filled_unique : (t xs : List ℕ) → Checks t accepted → (d out other : List ℕ) → Filled t xs d out → Filled t xs d other → out ≡ other
