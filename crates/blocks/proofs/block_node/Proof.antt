@@ -4,8 +4,8 @@ use Rattle.blocks.proofs.Making.{of_free, in_under, of_under}
 use Rattle.blocks.proofs.block_node.Statement.{statement}
 use Rattle.blocks.proofs.block_node.Tie as tie
 
-pub block-node-spec : {M : Type 1} → statement M
-block-node-spec =
+pub block_node_spec : {M : Type 1} → statement M
+block_node_spec =
     tie.close
     (tie.spec
     (λ c κs. search rules)

@@ -7,9 +7,9 @@ use Rattle.blocks.proofs.Making.{not_below}
 use Rattle.blocks.proofs.next_node.Statement.{statement}
 use Rattle.blocks.proofs.next_node.Tie as tie
 
-pub next-node-spec : {M : Type 1} → statement M
+pub next_node_spec : {M : Type 1} → statement M
 unfolding bytes_of boolean_bytes sequence_bytes property_bytes
-next-node-spec =
+next_node_spec =
     tie.close
     (tie.spec
     (λ c κs. search rules)
@@ -38,17 +38,17 @@ next-node-spec =
     (λ c. search rules)
     (λ c. search rules)
     (λ c κs. search rules)
-    (λ c. rw c.before.match.keys1 c.node.ensures)
-    (λ c. rw c.before.match.keys2 c.node2.ensures)
-    (λ c. rw c.before.match.keys3 c.node3.ensures)
-    (λ c. rw c.before.match.keys4 c.node4.ensures)
-    (λ c. rw c.before.match.keys5 c.node5.ensures)
-    (λ c. rw c.before.match.keys6 c.node6.ensures)
-    (λ c. rw c.before.match.keys7 c.node7.ensures)
-    (λ c. rw c.before.match.keys8 c.node8.ensures)
-    (λ c. rw c.before.match.keys9 c.node9.ensures)
-    (λ c. rw c.before.match.keys10 c.node10.ensures)
-    (λ c. rw c.before.match.keys11 c.node11.ensures)
-    (λ c. rw c.before.match.keys12 c.node12.ensures)
-    (λ c. rw c.before.match.keys13 c.node13.ensures)
-    (λ c. let l = not_below 13 _ c.before.match.rest in let e : c.before.before.args.i ≡ 13 = omega arith in rw e c.node14.ensures))
+    (λ c. rw c.before.in_default.keys1 c.node.ensures)
+    (λ c. rw c.before.in_default.keys2 c.node-in-1.ensures)
+    (λ c. rw c.before.in_default.keys3 c.node-in-2.ensures)
+    (λ c. rw c.before.in_default.keys4 c.node-in-3.ensures)
+    (λ c. rw c.before.in_default.keys5 c.node-in-4.ensures)
+    (λ c. rw c.before.in_default.keys6 c.node-in-5.ensures)
+    (λ c. rw c.before.in_default.keys7 c.node-in-6.ensures)
+    (λ c. rw c.before.in_default.keys8 c.node-in-7.ensures)
+    (λ c. rw c.before.in_default.keys9 c.node-in-8.ensures)
+    (λ c. rw c.before.in_default.keys10 c.node-in-9.ensures)
+    (λ c. rw c.before.in_default.keys11 c.node-in-10.ensures)
+    (λ c. rw c.before.in_default.keys12 c.node-in-11.ensures)
+    (λ c. rw c.before.in_default.keys13 c.node-in-12.ensures)
+    (λ c. let l = not_below 13 _ c.before.in_default.rest in let e : c.before.before.args.i ≡ 13 = omega arith in rw e c.node-in_default.ensures))

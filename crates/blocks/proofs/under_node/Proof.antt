@@ -4,8 +4,8 @@ use Rattle.blocks.proofs.Making.{in_letter, in_next, in_until, of_letter, of_nex
 use Rattle.blocks.proofs.under_node.Statement.{statement}
 use Rattle.blocks.proofs.under_node.Tie as tie
 
-pub under-node-spec : {M : Type 1} → statement M
-under-node-spec =
+pub under_node_spec : {M : Type 1} → statement M
+under_node_spec =
     tie.close
     (tie.spec
     (λ c κs. (search rules, search in_letter))

@@ -8,11 +8,11 @@ returns : tie.Need-returns
 returns c =
     let high = c.before.before.before.before in
     let enter = high.before.before in
-    fallen enter.args.samples.now enter.args.s enter.requires.0 _ high.signal-set.ensures _ c.before.up.ensures _ c.before.before.before.all-samples.ensures _
+    fallen enter.args.samples.now enter.args.s enter.requires.0 _ high.signal_set-high.ensures _ c.before.up.ensures _ c.before.before.before.all_samples.ensures _
     c.before.before.without.ensures _ c.common.ensures
 
-pub fallen-set-spec : {M : Type 1} → statement M
-fallen-set-spec =
+pub fallen_set_spec : {M : Type 1} → statement M
+fallen_set_spec =
     tie.close
     (tie.spec
     (λ c κs. search rules)

@@ -7,10 +7,10 @@ use Rattle.booleans.proofs.risen_set.Tie as tie
 returns : tie.Need-returns
 returns c =
     let enter = c.before.before.before.before in
-    risen enter.args.samples.now enter.args.s enter.requires.0 _ c.before.before.signal-set.ensures _ c.before.up.ensures _ c.without.ensures
+    risen enter.args.samples.now enter.args.s enter.requires.0 _ c.before.before.signal_set-high.ensures _ c.before.up.ensures _ c.without.ensures
 
-pub risen-set-spec : {M : Type 1} → statement M
-risen-set-spec =
+pub risen_set_spec : {M : Type 1} → statement M
+risen_set_spec =
     tie.close
     (tie.spec
     (λ c κs. search rules)

@@ -5,8 +5,8 @@ use Rattle.calls.proofs.Returning.{judge_returns, judge_refused}
 use Rattle.calls.proofs.judge.Statement.{statement}
 use Rattle.calls.proofs.judge.Tie as tie
 
-pub judge-spec : {M : Type 1} → statement M
-judge-spec =
+pub judge_spec : {M : Type 1} → statement M
+judge_spec =
     tie.close
     (tie.spec
     (λ c κs. search rules)

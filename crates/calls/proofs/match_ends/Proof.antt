@@ -5,8 +5,8 @@ use Rattle.calls.proofs.Returning.{ends_returns, ends_refused}
 use Rattle.calls.proofs.match_ends.Statement.{statement}
 use Rattle.calls.proofs.match_ends.Tie as tie
 
-pub match-ends-spec : {M : Type 1} → statement M
-match-ends-spec =
+pub match_ends_spec : {M : Type 1} → statement M
+match_ends_spec =
     tie.close
     (tie.spec
     (λ c κs. search rules)

@@ -5,8 +5,8 @@ use Rattle.calls.proofs.Returning.{plain_returns, plain_refused}
 use Rattle.calls.proofs.plain_judge.Statement.{statement}
 use Rattle.calls.proofs.plain_judge.Tie as tie
 
-pub plain-judge-spec : {M : Type 1} → statement M
-plain-judge-spec =
+pub plain_judge_spec : {M : Type 1} → statement M
+plain_judge_spec =
     tie.close
     (tie.spec
     (λ c κs. search rules)

@@ -5,8 +5,8 @@ use Rattle.calls.proofs.Returning.{rewrite_returns, rewrite_refused}
 use Rattle.calls.proofs.rewrite.Statement.{statement}
 use Rattle.calls.proofs.rewrite.Tie as tie
 
-pub rewrite-spec : {M : Type 1} → statement M
-rewrite-spec =
+pub rewrite_spec : {M : Type 1} → statement M
+rewrite_spec =
     tie.close
     (tie.spec
     (λ c κs. search rules)

@@ -8,5 +8,5 @@ use Rattle.cells.proofs.all_samples.Tie as tie
 returns : tie.Need-returns
 returns c k = c.down.ensures k ∙ c.before.full.ensures (suc k)
 
-pub all-samples-spec : {M : Type 1} → statement M
-all-samples-spec = tie.close (tie.spec (λ c κs. search rules) (λ c κs. search rules) returns)
+pub all_samples_spec : {M : Type 1} → statement M
+all_samples_spec = tie.close (tie.spec (λ c κs. search rules) (λ c κs. search rules) returns)

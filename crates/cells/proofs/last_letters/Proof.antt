@@ -6,7 +6,7 @@ use Rattle.cells.proofs.last_letters.Statement.{statement}
 use Rattle.cells.proofs.last_letters.Tie as tie
 
 returns : tie.Need-returns
-returns c k = c.down.ensures k ∙ c.before.longer-ends.ensures (suc k)
+returns c k = c.down.ensures k ∙ c.before.longer_ends.ensures (suc k)
 
-pub last-letters-spec : {M : Type 1} → statement M
-last-letters-spec = tie.close (tie.spec (λ c κs. search rules) (λ c κs. search rules) returns)
+pub last_letters_spec : {M : Type 1} → statement M
+last_letters_spec = tie.close (tie.spec (λ c κs. search rules) (λ c κs. search rules) returns)

@@ -6,5 +6,5 @@ use Rattle.cells.proofs.longer_ends.Tie as tie
 returns : tie.Need-returns
 returns c k = simp (c.after.ensures k, c.before.word_at.ensures)
 
-pub longer-ends-spec : {M : Type 1} → statement M
-longer-ends-spec = tie.close (tie.spec (λ c κs. search rules) (λ c κs. search rules) returns)
+pub longer_ends_spec : {M : Type 1} → statement M
+longer_ends_spec = tie.close (tie.spec (λ c κs. search rules) (λ c κs. search rules) returns)

@@ -7,30 +7,30 @@ use Rattle.cells.proofs.Starting.{Met, met_more}
 use Rattle.cells.proofs.starts_into.Statement.{statement}
 use Rattle.cells.proofs.starts_into.Tie as tie
 
-abbrev invariant-loop : tie.invariant-loop
+abbrev invariant-loop : tie.invariant-loop-i
 invariant-loop rows a n p out₀ i₀ out i = (i ≤ n + 1) × Met rows a i p.bits out.bits
 
-abbrev decreases-loop : tie.decreases-loop
+abbrev decreases-loop : tie.decreases-loop-i
 decreases-loop rows a n p out₀ i₀ out i = n + 1 - i
 
-loop-again : tie.Need-loop-preserved invariant-loop decreases-loop
+loop-again : tie.Need-loop-i-preserved invariant-loop decreases-loop
 loop-again c =
     let t = c.before.before.before.before in
     let a = t.before.before.before.args in
-    (search rules, met_more a.rows.now a.a _ _ _ _ _ _ t.loop.invariant.1 c.before.before.last-letters.ensures c.before.meets.ensures c.with-if.ensures)
+    (search rules, met_more a.rows.now a.a _ _ _ _ _ _ t.loop-i.invariant.1 c.before.before.last_letters.ensures c.before.meets.ensures c.with_if-out.ensures)
 
-pub starts-into-spec : {M : Type 1} → statement M
-starts-into-spec =
+pub starts_into_spec : {M : Type 1} → statement M
+starts_into_spec =
     tie.close
     (tie.spec
     invariant-loop
     decreases-loop
     (λ c κs. search rules)
-    (λ c. (search rules, taken_none _ _ c.empty.ensures))
+    (λ c. (search rules, taken_none _ _ c.empty-out.ensures))
     (λ c κs. search rules)
     (λ c κs. search rules)
     (λ c κs. search rules)
     (λ c. search rules)
     (λ c. search rules)
     loop-again
-    (λ c. asked_upto _ _ _ _ c.before.loop.invariant.1 (omega arith)))
+    (λ c. asked_upto _ _ _ _ c.before.loop-i.invariant.1 (omega arith)))

@@ -11,25 +11,25 @@ use Rattle.cells.proofs.Loops.{taken_none, taken_more, asked_upto, not_empty}
 use Rattle.cells.proofs.starts_of.Statement.{statement}
 use Rattle.cells.proofs.starts_of.Tie as tie
 
-abbrev invariant-loop : tie.invariant-loop
+abbrev invariant-loop : tie.invariant-loop-i
 invariant-loop rows a n out₀ i₀ out i = (i ≤ n + 1) × Is out.bits (λ j. ltb j i && some (longer rows a j) 0 64)
 
-abbrev decreases-loop : tie.decreases-loop
+abbrev decreases-loop : tie.decreases-loop-i
 decreases-loop rows a n out₀ i₀ out i = n + 1 - i
 
-loop-holds : tie.Need-loop-init invariant-loop decreases-loop
-loop-holds c = (search rules, taken_none _ _ c.empty.ensures)
+loop-holds : tie.Need-loop-i-init invariant-loop decreases-loop
+loop-holds c = (search rules, taken_none _ _ c.empty-out.ensures)
 
-loop-again : tie.Need-loop-preserved invariant-loop decreases-loop
+loop-again : tie.Need-loop-i-preserved invariant-loop decreases-loop
 loop-again c =
-    let l = c.before.before.before.before.loop in
-    (search rules, taken_more _ _ _ _ _ l.invariant.1 (not_empty _ _ _ c.before.is-empty.ensures c.before.before.longer-ends.ensures) c.with-if.ensures)
+    let l = c.before.before.before.before.loop-i in
+    (search rules, taken_more _ _ _ _ _ l.invariant.1 (not_empty _ _ _ c.before.is_empty.ensures c.before.before.longer_ends.ensures) c.with_if-out.ensures)
 
 returns : tie.Need-returns invariant-loop decreases-loop
-returns c = asked_upto _ _ _ _ c.before.loop.invariant.1 (omega arith)
+returns c = asked_upto _ _ _ _ c.before.loop-i.invariant.1 (omega arith)
 
-pub starts-of-spec : {M : Type 1} → statement M
-starts-of-spec =
+pub starts_of_spec : {M : Type 1} → statement M
+starts_of_spec =
     tie.close
     (tie.spec
     invariant-loop

@@ -14,5 +14,5 @@ module _ (block x own : ℕ) where
   same : (block ≡ 0 → ⊥) → own ≡ cond (eqb block 0) x own
   same e = rw (ne_eqb block 0 e)
 
-pub handed-down-spec : {M : Type 1} → statement M
-handed-down-spec = tie.close (tie.spec (λ c. search condition) (λ c. search same))
+pub handed_down_spec : {M : Type 1} → statement M
+handed_down_spec = tie.close (tie.spec (λ c. search condition) (λ c. search same))

@@ -19,8 +19,8 @@ module _ (sort v : ℕ) where
   unfolding part_of
   operand l i e = rw (le-ltb sort sequence l, e)
 
-pub part-spec : {M : Type 1} → statement M
-part-spec =
+pub part_spec : {M : Type 1} → statement M
+part_spec =
     tie.close
     (tie.spec
     (λ c κs. search rules)

@@ -4,8 +4,8 @@ use Rattle.conditions.proofs.Filling.{low_boolean, boolean_made, no_sequence, no
 use Rattle.conditions.proofs.set_of.Statement.{statement}
 use Rattle.conditions.proofs.set_of.Tie as tie
 
-pub set-of-spec : {M : Type 1} → statement M
-set-of-spec =
+pub set_of_spec : {M : Type 1} → statement M
+set_of_spec =
     tie.close
     (tie.spec
     (λ c κs. search rules)

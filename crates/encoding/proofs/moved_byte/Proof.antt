@@ -19,8 +19,8 @@ module _ (numbers : List ℕ) (sort v : ℕ) where
   by_number : (sort ≡ none → ⊥) → (i : ℕ) → i ≡ named_by v → get_or numbers i 0 ≡ cond (eqb sort none) v (get_or numbers (named_by v) 0)
   by_number e i q = rw (ne_eqb sort none e, q)
 
-pub moved-byte-spec : {M : Type 1} → statement M
-moved-byte-spec =
+pub moved_byte_spec : {M : Type 1} → statement M
+moved_byte_spec =
     tie.close
     (tie.spec
     (λ c κs. search rules)

@@ -6,8 +6,8 @@ use Rattle.encoding.proofs.Putting.{put_six}
 use Rattle.encoding.proofs.put_heading.Statement.{statement}
 use Rattle.encoding.proofs.put_heading.Tie as tie
 
-pub put-heading-spec : {M : Type 1} → statement M
-put-heading-spec =
+pub put_heading_spec : {M : Type 1} → statement M
+put_heading_spec =
     tie.close
     (tie.spec
     (λ c. search rules)

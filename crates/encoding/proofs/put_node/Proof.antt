@@ -6,8 +6,8 @@ use Rattle.encoding.proofs.Putting.{put_four}
 use Rattle.encoding.proofs.put_node.Statement.{statement}
 use Rattle.encoding.proofs.put_node.Tie as tie
 
-pub put-node-spec : {M : Type 1} → statement M
-put-node-spec =
+pub put_node_spec : {M : Type 1} → statement M
+put_node_spec =
     tie.close
     (tie.spec
     (λ c. search rules)

@@ -10,10 +10,10 @@ use Rattle.encoding.proofs.Putting.{put_none, put_byte}
 use Rattle.expand.proofs.copy.Statement.{statement}
 use Rattle.expand.proofs.copy.Tie as tie
 
-abbrev invariant-loop : tie.invariant-loop
+abbrev invariant-loop : tie.invariant-loop-i
 invariant-loop from n out₀ i₀ out i = (i ≤ n) × (out ≡ put out₀ 0 (take i from)) × (length out ≡ length out₀)
 
-abbrev decreases-loop : tie.decreases-loop
+abbrev decreases-loop : tie.decreases-loop-i
 decreases-loop from n out₀ i₀ out i = n - i
 
 all : (from d out : List ℕ) (n i : ℕ) → i ≤ n → n ≤ i → out ≡ put d 0 (take i from) → out ≡ put d 0 (take n from)
@@ -31,7 +31,7 @@ copy_spec =
     (λ c. omega arith)
     (λ c. omega arith)
     (λ c.
-    let i = c.before.before.loop.invariant in
+    let i = c.before.before.loop-i.invariant in
     let l = i.2 in
     (omega arith, put_byte _ _ _ _ i.1 (omega arith) (omega arith) l, simp length-set l))
     (λ c. search rules)

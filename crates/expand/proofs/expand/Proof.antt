@@ -17,8 +17,8 @@ module _ (s : List ℕ) (b : Bool) (e : b ≡ has_version3 s) where
   older : b ≡ false → has_version3 s ≡ false
   older f = sym e ∙ f
 
-pub expand-spec : {M : Type 1} → statement M
-expand-spec =
+pub expand_spec : {M : Type 1} → statement M
+expand_spec =
     tie.close
     (tie.spec
     (λ c κs. search rules)

@@ -5,11 +5,11 @@ use Rattle.expand.specs.Opens.{has_version3}
 use Rattle.expand.proofs.has_version_3.Statement.{statement}
 use Rattle.expand.proofs.has_version_3.Tie as tie
 
-pub has-version-3-spec : {M : Type 1} → statement M
+pub has_version_3_spec : {M : Type 1} → statement M
 unfolding has_version3
-has-version-3-spec =
+has_version_3_spec =
     tie.close
     (tie.spec
-    (λ c. simp (lt-ltb _ _ c.if1.true))
+    (λ c. simp (lt-ltb _ _ c.if-b-lt6.true))
     (λ c κs. search rules)
-    (λ c. simp (le-ltb _ _ c.before.if1.false, c.version_of.ensures)))
+    (λ c. simp (le-ltb _ _ c.before.if-b-lt6.false, c.version_of.ensures)))

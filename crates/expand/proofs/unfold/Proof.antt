@@ -5,8 +5,8 @@ use Rattle.expand.proofs.Unfolding.{root_fits, ready, first_few, unfolds_over, u
 use Rattle.expand.proofs.unfold.Statement.{statement}
 use Rattle.expand.proofs.unfold.Tie as tie
 
-pub unfold-spec : {M : Type 1} → statement M
-unfold-spec =
+pub unfold_spec : {M : Type 1} → statement M
+unfold_spec =
     tie.close
     (tie.spec
     (λ c. search rules)

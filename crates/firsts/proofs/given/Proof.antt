@@ -10,9 +10,9 @@ use Rattle.firsts.proofs.Arms.{arm, no_delay, some_delay, no_arm}
 use Rattle.firsts.proofs.given.Statement.{statement}
 use Rattle.firsts.proofs.given.Tie as tie
 
-pub given-spec : {M : Type 1} → statement M
+pub given_spec : {M : Type 1} → statement M
 unfolding operators lookup given first_gift boolean_bytes
-given-spec =
+given_spec =
     tie.close
     (tie.spec
     (λ c κs. search rules)
@@ -32,20 +32,20 @@ given-spec =
     (λ c κs. search rules)
     (λ c κs. search rules)
     (λ c κs. search rules)
-    (λ c. c.boolean.ensures ∙ arm _ 0 c.before.match.keys1)
-    (λ c. c.boolean2.ensures ∙ arm _ 1 c.before.match.keys2)
-    (λ c. c.boolean3.ensures ∙ arm _ 2 c.before.match.keys3)
-    (λ c. c.boolean4.ensures ∙ arm _ 3 c.before.match.keys4)
-    (λ c. c.boolean5.ensures ∙ arm _ 4 c.before.match.keys5)
-    (λ c. c.boolean6.ensures ∙ arm _ 5 c.before.match.keys6)
-    (λ c. c.boolean7.ensures ∙ arm _ 6 c.before.match.keys7)
-    (λ c. c.nothing.ensures ∙ no_delay _ c.before.before.before.match.keys8 (omega arith))
-    (λ c. c.boolean8.ensures ∙ some_delay _ c.before.before.before.match.keys8 (omega arith))
-    (λ c. c.boolean9.ensures ∙ arm _ 25 c.before.match.keys9)
-    (λ c. c.boolean10.ensures ∙ arm _ 26 c.before.match.keys10)
-    (λ c. c.boolean11.ensures ∙ arm _ 41 c.before.match.keys11)
-    (λ c. c.boolean12.ensures ∙ arm _ 43 c.before.match.keys12)
-    (λ c. c.boolean13.ensures ∙ arm _ 44 c.before.match.keys13)
-    (λ c. c.boolean14.ensures ∙ arm _ 45 c.before.match.keys14)
-    (λ c. c.boolean15.ensures ∙ arm _ 46 c.before.match.keys15)
-    (λ c. c.nothing2.ensures ∙ no_arm _ c.before.before.requires c.before.match.rest))
+    (λ c. c.boolean.ensures ∙ arm _ 0 c.before.in_default.keys1)
+    (λ c. c.boolean-in-1.ensures ∙ arm _ 1 c.before.in_default.keys2)
+    (λ c. c.boolean-in-2.ensures ∙ arm _ 2 c.before.in_default.keys3)
+    (λ c. c.boolean-in-3.ensures ∙ arm _ 3 c.before.in_default.keys4)
+    (λ c. c.boolean-in-4.ensures ∙ arm _ 4 c.before.in_default.keys5)
+    (λ c. c.boolean-in-5.ensures ∙ arm _ 5 c.before.in_default.keys6)
+    (λ c. c.boolean-in-6.ensures ∙ arm _ 6 c.before.in_default.keys7)
+    (λ c. c.nothing.ensures ∙ no_delay _ c.before.before.before.in_default.keys8 (omega arith))
+    (λ c. c.boolean-else-v-lt16.ensures ∙ some_delay _ c.before.before.before.in_default.keys8 (omega arith))
+    (λ c. c.boolean-in-25.ensures ∙ arm _ 25 c.before.in_default.keys9)
+    (λ c. c.boolean-in-26.ensures ∙ arm _ 26 c.before.in_default.keys10)
+    (λ c. c.boolean-in-41.ensures ∙ arm _ 41 c.before.in_default.keys11)
+    (λ c. c.boolean-in-43.ensures ∙ arm _ 43 c.before.in_default.keys12)
+    (λ c. c.boolean-in-44.ensures ∙ arm _ 44 c.before.in_default.keys13)
+    (λ c. c.boolean-in-45.ensures ∙ arm _ 45 c.before.in_default.keys14)
+    (λ c. c.boolean-in-46.ensures ∙ arm _ 46 c.before.in_default.keys15)
+    (λ c. c.nothing-in_default.ensures ∙ no_arm _ c.before.before.requires c.before.in_default.rest))

@@ -11,7 +11,7 @@ use Rattle.firsts.proofs.Passing.{none_counted, none_numbered, nothing_put, smal
 use Rattle.firsts.proofs.put_booleans.Statement.{statement}
 use Rattle.firsts.proofs.put_booleans.Tie as tie
 
-abbrev invariant-loop : tie.invariant-loop
+abbrev invariant-loop : tie.invariant-loop-k
 invariant-loop b n numbers₀ out₀ at₀ k₀ numbers out at k =
     (k ≤ n)
     × (at ≡ number_of b k)
@@ -19,11 +19,11 @@ invariant-loop b n numbers₀ out₀ at₀ k₀ numbers out at k =
     × (length out ≡ length out₀)
     × (out ≡ put out₀ 6 (encoded (booleans_below b k)))
 
-abbrev decreases-loop : tie.decreases-loop
+abbrev decreases-loop : tie.decreases-loop-k
 decreases-loop b n numbers₀ out₀ at₀ k₀ numbers out at k = n - k
 
-pub put-booleans-spec : {M : Type 1} → statement M
-put-booleans-spec =
+pub put_booleans_spec : {M : Type 1} → statement M
+put_booleans_spec =
     tie.close
     (tie.spec
     invariant-loop

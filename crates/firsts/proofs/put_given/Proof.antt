@@ -4,8 +4,8 @@ use Rattle.firsts.proofs.Giving.{known, none_counted, none_put, one_counted, one
 use Rattle.firsts.proofs.put_given.Statement.{statement}
 use Rattle.firsts.proofs.put_given.Tie as tie
 
-pub put-given-spec : {M : Type 1} → statement M
-put-given-spec =
+pub put_given_spec : {M : Type 1} → statement M
+put_given_spec =
     tie.close
     (tie.spec
     (λ c κs. search rules)

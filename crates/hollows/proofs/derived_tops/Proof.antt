@@ -28,8 +28,8 @@ module _ (q : DerivedSequence) (x y : Tops) where
   unfolding derived_tops
   nonconsecutive i m e = rw e
 
-pub derived-tops-spec : {M : Type 1} → statement M
-derived-tops-spec =
+pub derived_tops_spec : {M : Type 1} → statement M
+derived_tops_spec =
     tie.close
     (tie.spec
     (λ c. search rules)

@@ -11,36 +11,36 @@ use Rattle.hollows.proofs.Keeping.{grown, solid, hollows, still, nothing_kept}
 use Rattle.hollows.proofs.first_hollow.Statement.{statement}
 use Rattle.hollows.proofs.first_hollow.Tie as tie
 
-abbrev invariant-loop : tie.invariant-loop
+abbrev invariant-loop : tie.invariant-loop-k
 invariant-loop b n done₀ k₀ done k =
     (k ≤ n) × (length done ≡ 121) × (take k done ≡ tops_below b k) × ((j : ℕ) → k ≤ j → get_or done j nothing ≡ nothing) × (first (hollow b) 0 n ≡ first (hollow b) k n)
 
-abbrev decreases-loop : tie.decreases-loop
+abbrev decreases-loop : tie.decreases-loop-k
 decreases-loop b n done₀ k₀ done k = n - k
 
 -- the flags of one more node
-loop-again : tie.Need-loop-preserved invariant-loop decreases-loop
+loop-again : tie.Need-loop-k-preserved invariant-loop decreases-loop
 loop-again c =
     let y = c.before.before.before in
     let x = y.before.before.before in
     let t = x.before.before.before.before in
     let a = t.before.before.args in
-    let l = t.loop in
+    let l = t.loop-k in
     let h : l.k < a.n = omega arith in
     let few : a.n ≤ 120 = omega arith in
-    let w = x.before.before.node_at_lem.ensures in
-    let v = x.before.decode.ensures in
+    let w = x.before.before.node_at-raw.ensures in
+    let v = x.before.decode-v.ensures in
     let p = x.named.ensures.0 in (
       omega arith,
       simp length-set (omega arith),
-      grown a.b.now a.n l.k h few l.done l.invariant.2 l.invariant.3 _ w _ v _ p l.invariant.1 _ y.before.named2.ensures.0 _ c.node-tops.ensures,
+      grown a.b.now a.n l.k h few l.done l.invariant.2 l.invariant.3 _ w _ v _ p l.invariant.1 _ y.before.named-in-loop-k.ensures.0 _ c.node_tops.ensures,
       still l.k l.done l.invariant.3 _,
-      solid a.b.now a.n l.k h few l.done l.invariant.2 l.invariant.3 _ w _ v _ p l.invariant.4 _ c.before.before.is-hollow.ensures c.before.if1.false,
+      solid a.b.now a.n l.k h few l.done l.invariant.2 l.invariant.3 _ w _ v _ p l.invariant.4 _ c.before.before.is_hollow.ensures c.before.if-is_hollow.false,
     )
 
-pub first-hollow-spec : {M : Type 1} → statement M
+pub first_hollow_spec : {M : Type 1} → statement M
 unfolding tops_below
-first-hollow-spec =
+first_hollow_spec =
     tie.close
     (tie.spec
     invariant-loop

@@ -4,9 +4,9 @@ use Rattle.hollows.specs.Flags.{hollow_derived}
 use Rattle.hollows.proofs.hollow_derived.Statement.{statement}
 use Rattle.hollows.proofs.hollow_derived.Tie as tie
 
-pub hollow-derived-spec : {M : Type 1} → statement M
+pub hollow_derived_spec : {M : Type 1} → statement M
 unfolding hollow_derived
-hollow-derived-spec =
+hollow_derived_spec =
     tie.close
     (tie.spec
     (λ c. search rules)
@@ -16,10 +16,10 @@ hollow-derived-spec =
     (λ c. search rules)
     (λ c. search rules)
     (λ c. search rules)
-    (λ c. rw c.before.enum_told.given.1)
-    (λ c. rw c.before.enum-told2.given.1)
-    (λ c. rw c.before.enum-told3.given.1)
-    (λ c. rw c.enum-told4.given.1)
-    (λ c. rw c.enum-told5.given.1)
-    (λ c. rw c.enum-told6.given.1)
-    (λ c. rw c.enum-told7.given.1))
+    (λ c. rw c.before.enum_told-1.given.1)
+    (λ c. rw c.before.enum_told-in-Followed-1.given.1)
+    (λ c. rw c.before.enum_told-in-FollowedNext-1.given.1)
+    (λ c. rw c.enum_told-in-Always-1.given.1)
+    (λ c. rw c.enum_told-in-Eventually-1.given.1)
+    (λ c. rw c.enum_told-in-StrongUntil-1.given.1)
+    (λ c. rw c.enum_told-in-StrongNext-1.given.1))

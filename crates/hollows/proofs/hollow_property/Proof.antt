@@ -14,9 +14,9 @@ derived : (p : PropertyOp) (x : Tops) (o : DerivedProperty) → p ≡ Defined o 
 unfolding hollow_property
 derived p x o e t f = rw (e, f)
 
-pub hollow-property-spec : {M : Type 1} → statement M
+pub hollow_property_spec : {M : Type 1} → statement M
 unfolding hollow_property
-hollow-property-spec =
+hollow_property_spec =
     tie.close
     (tie.spec
     (λ c. search rules)
@@ -30,13 +30,13 @@ hollow-property-spec =
     (λ c. search rules)
     (λ c. search rules)
     (λ c κs. search rules)
-    (λ c. rw c.before.enum_told.given.1)
-    (λ c. rw c.before.enum-told2.given.1)
-    (λ c. rw c.enum-told3.given.1)
-    (λ c. rw c.enum-told4.given.1)
-    (λ c. rw c.enum-told5.given.1)
-    (λ c. rw c.before.enum-told6.given.1)
-    (λ c. rw c.enum-told7.given.1)
-    (λ c. rw c.enum-told8.given.1)
-    (λ c. rw c.enum-told9.given.1)
+    (λ c. rw c.before.enum_told-1.given.1)
+    (λ c. rw c.before.enum_told-in-Weak-1.given.1)
+    (λ c. rw c.enum_told-in-Negated-1.given.1)
+    (λ c. rw c.enum_told-in-AnyOf-1.given.1)
+    (λ c. rw c.enum_told-in-BothOf-1.given.1)
+    (λ c. rw c.before.enum_told-in-Implies-1.given.1)
+    (λ c. rw c.enum_told-in-Next-1.given.1)
+    (λ c. rw c.enum_told-in-Until-1.given.1)
+    (λ c. rw c.enum_told-in-Ticked-1.given.1)
     (λ c. search derived))

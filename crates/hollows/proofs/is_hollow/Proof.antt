@@ -4,15 +4,15 @@ use Rattle.hollows.specs.Flags.{hollow_node}
 use Rattle.hollows.proofs.is_hollow.Statement.{statement}
 use Rattle.hollows.proofs.is_hollow.Tie as tie
 
-pub is-hollow-spec : {M : Type 1} → statement M
+pub is_hollow_spec : {M : Type 1} → statement M
 unfolding hollow_node
-is-hollow-spec =
+is_hollow_spec =
     tie.close
     (tie.spec
     (λ c. search rules)
     (λ c. search rules)
     (λ c. search rules)
     (λ c κs. search rules)
-    (λ c. rw c.enum_told.given.1)
-    (λ c. rw c.enum-told2.given.1)
-    (λ c. rw c.before.before.v.given.1 c.hollow-property.ensures))
+    (λ c. rw c.enum_told-1.given.1)
+    (λ c. rw c.enum_told-in-Sequence-1.given.1)
+    (λ c. rw c.before.before.v-1.given.1 c.hollow_property.ensures))

@@ -44,8 +44,8 @@ module _ (q : SequenceOp) (x y : Tops) where
   unfolding sequence_tops
   derived o e t f = rw (e, f)
 
-pub sequence-tops-spec : {M : Type 1} → statement M
-sequence-tops-spec =
+pub sequence_tops_spec : {M : Type 1} → statement M
+sequence_tops_spec =
     tie.close
     (tie.spec
     (λ c. search rules)

@@ -7,8 +7,8 @@ use Rattle.line.proofs.Answering.{record_node, table_node, level_digit, within_w
 use Rattle.line.proofs.answer.Statement.{statement}
 use Rattle.line.proofs.answer.Tie as tie
 
-pub answer-spec : {M : Type 1} → statement M
-answer-spec =
+pub answer_spec : {M : Type 1} → statement M
+answer_spec =
     tie.close
     (tie.spec
     (λ c κs. search rules)
@@ -17,9 +17,9 @@ answer-spec =
     (λ c. search rules)
     (λ c. search rules)
     (λ c κs. search rules)
-    (λ c. sym (length-take-le _ _ c.before.before.before.before.before.table-end.ensures.0))
-    (λ c. within_words _ _ _ _ c.before.before.read.ensures (search rules))
-    (λ c. sym (length-take-le _ _ (within_words _ _ _ _ c.before.before.before.read.ensures (search rules))))
+    (λ c. sym (length-take-le _ _ c.before.before.before.before.before.table_end-end.ensures.0))
+    (λ c. within_words _ _ _ _ c.before.before.read-reading.ensures (search rules))
+    (λ c. sym (length-take-le _ _ (within_words _ _ _ _ c.before.before.before.read-reading.ensures (search rules))))
     (λ c. search rules)
     (λ c κs. search rules)
     (λ c κs. (search rules, search (table_node, record_node), search (table_node, record_node), search level_digit))

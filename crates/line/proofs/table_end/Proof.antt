@@ -5,8 +5,8 @@ use Rattle.line.proofs.Parts.{ends_torn, ends_short, ends_there}
 use Rattle.line.proofs.table_end.Statement.{statement}
 use Rattle.line.proofs.table_end.Tie as tie
 
-pub table-end-spec : {M : Type 1} → statement M
-table-end-spec =
+pub table_end_spec : {M : Type 1} → statement M
+table_end_spec =
     tie.close
     (tie.spec
     (λ c. (search rules, search ends_torn))

@@ -4,8 +4,8 @@ use Rattle.linetext.proofs.Lines.{puts_digit, puts_none}
 use Rattle.linetext.proofs.put_digit.Statement.{statement}
 use Rattle.linetext.proofs.put_digit.Tie as tie
 
-pub put-digit-spec : {M : Type 1} → statement M
-put-digit-spec =
+pub put_digit_spec : {M : Type 1} → statement M
+put_digit_spec =
     tie.close
     (tie.spec
     (λ c. search rules)

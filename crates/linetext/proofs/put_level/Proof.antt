@@ -4,8 +4,8 @@ use Rattle.linetext.proofs.Lines.{puts_yes, puts_no}
 use Rattle.linetext.proofs.put_level.Statement.{statement}
 use Rattle.linetext.proofs.put_level.Tie as tie
 
-pub put-level-spec : {M : Type 1} → statement M
-put-level-spec =
+pub put_level_spec : {M : Type 1} → statement M
+put_level_spec =
     tie.close
     (tie.spec
     (λ c. search rules)

@@ -4,8 +4,8 @@ use Rattle.linetext.proofs.Lines.{puts_as, told-table, told_record, told_level}
 use Rattle.linetext.proofs.put_line.Statement.{statement}
 use Rattle.linetext.proofs.put_line.Tie as tie
 
-pub put-line-spec : {M : Type 1} → statement M
-put-line-spec =
+pub put_line_spec : {M : Type 1} → statement M
+put_line_spec =
     tie.close
     (tie.spec
     (λ c κs. search rules)

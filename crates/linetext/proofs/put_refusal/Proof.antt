@@ -4,8 +4,8 @@ use Rattle.linetext.proofs.Lines.{puts_refusal}
 use Rattle.linetext.proofs.put_refusal.Statement.{statement}
 use Rattle.linetext.proofs.put_refusal.Tie as tie
 
-pub put-refusal-spec : {M : Type 1} → statement M
-put-refusal-spec =
+pub put_refusal_spec : {M : Type 1} → statement M
+put_refusal_spec =
     tie.close
     (tie.spec
     (λ c. search rules)

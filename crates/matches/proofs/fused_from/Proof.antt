@@ -8,13 +8,13 @@ use Rattle.matches.proofs.fused_from.Tie as tie
 returns : tie.Need-returns
 returns c =
     let s = c.before.before.before.before.before.before in
-    let shared = c.before.before.before.last-letters in
+    let shared = c.before.before.before.last_letters-shared in
     record {
-      ends = reached_as _ _ _ (reached_by _ s.args.second.now (longer s.args.rows.now s.args.b) _ _ c.before.before.ends-from.ensures s.requires.1) shared.ensures;
+      ends = reached_as _ _ _ (reached_by _ s.args.second.now (longer s.args.rows.now s.args.b) _ _ c.before.before.ends_from.ensures s.requires.1) shared.ensures;
       on = meets_as _ _ _ _ _ c.meets.ensures shared.ensures c.before.word_at.ensures;
     }
 
-pub fused-from-spec : {M : Type 1} → statement M
-fused-from-spec =
+pub fused_from_spec : {M : Type 1} → statement M
+fused_from_spec =
     tie.close
     (tie.spec (λ c κs. search rules) (λ c κs. search rules) (λ c κs. search rules) (λ c κs. search rules) returns)

@@ -10,21 +10,21 @@ module _ (d : tie.After-after) where
   abbrev start : tie.Start
   start = d.before.before.before.before
 
-ends-along-requires : tie.Need-ends-along-requires
+ends-along-requires : tie.Need-ends_along-requires
 ends-along-requires c κs =
     let s = start c in
-    (search rules, λ e. repeat_chains s.args.rows.now s.args.own.now _ s.args.a s.args.i _ _ (s.pre.1.1 e) c.after.ensures s.pre.1.0)
+    (search rules, λ e. repeat_chains s.args.rows.now s.args.own.now _ s.args.a s.args.i _ _ (s.requires.1.1 e) c.after.ensures s.requires.1.0)
 
 returns : tie.Need-returns
 returns c =
     let walk = c.before.before.before in
     let d = walk.before in
     let a = (start d).args in
-    let ends = repeat_ends a.rows.now a.own.now a.n a.a a.i _ _ _ _ d.before.word_at.ensures d.after.ensures walk.ends-along.ensures c.before.before.joined.ensures (start d).requires.1.0 in
-    record { ends = ends; on = meets_as _ _ _ _ _ c.meets.ensures ends c.before.word-at2.ensures }
+    let ends = repeat_ends a.rows.now a.own.now a.n a.a a.i _ _ _ _ d.before.word_at-first.ensures d.after.ensures walk.ends_along.ensures c.before.before.joined-ends.ensures (start d).requires.1.0 in
+    record { ends = ends; on = meets_as _ _ _ _ _ c.meets.ensures ends c.before.word_at.ensures }
 
-pub repeat-from-spec : {M : Type 1} → statement M
-repeat-from-spec =
+pub repeat_from_spec : {M : Type 1} → statement M
+repeat_from_spec =
     tie.close
     (tie.spec
     (λ c κs. search rules)

@@ -5,10 +5,10 @@ use Rattle.matches.proofs.then_open.Tie as tie
 
 returns : tie.Need-returns
 returns c =
-    λ k. simp (c.only_if.ensures k, c.before.word-at3.ensures, c.before.before.has2.ensures, c.before.before.before.word-at2.ensures, c.before.before.before.before.has.ensures, c.before.before.before.before.before.word_at.ensures)
+    λ k. simp (c.only_if.ensures k, c.before.word_at-3.ensures, c.before.before.has-2.ensures, c.before.before.before.word_at-2.ensures, c.before.before.before.before.has.ensures, c.before.before.before.before.before.word_at.ensures)
 
-pub then-open-spec : {M : Type 1} → statement M
-then-open-spec =
+pub then_open_spec : {M : Type 1} → statement M
+then_open_spec =
     tie.close
     (tie.spec
     (λ c κs. search rules)

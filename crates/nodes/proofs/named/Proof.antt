@@ -5,9 +5,9 @@ use Rattle.nodes.specs.Computed.{named_by}
 use Rattle.nodes.proofs.named.Statement.{statement}
 use Rattle.nodes.proofs.named.Tie as tie
 
-pub named-spec : {M : Type 1} → statement M
+pub named_spec : {M : Type 1} → statement M
 unfolding named_by
-named-spec = tie.close
+named_spec = tie.close
     (tie.spec
-    (λ c. (simp (lt-ltb _ _ c.if1.true), omega arith))
-    (λ c. (simp (le-ltb _ _ c.if1.false), omega arith)))
+    (λ c. (simp (lt-ltb _ _ c.if-i-lt120.true), omega arith))
+    (λ c. (simp (le-ltb _ _ c.if-i-lt120.false), omega arith)))

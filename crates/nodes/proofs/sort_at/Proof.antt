@@ -4,10 +4,10 @@ use borrow.Author.Rules.{rules}
 use Rattle.nodes.proofs.sort_at.Statement.{statement}
 use Rattle.nodes.proofs.sort_at.Tie as tie
 
-pub sort-at-spec : {M : Type 1} → statement M
+pub sort_at_spec : {M : Type 1} → statement M
 unfolding sort_at
-sort-at-spec = tie.close
+sort_at_spec = tie.close
     (tie.spec
     (λ c κs. search rules)
     (λ c κs. search rules)
-    (λ c. simp (c.row_of.ensures, c.before.node_at_lem.ensures)))
+    (λ c. simp (c.row_of-r.ensures, c.before.node_at-n.ensures)))

@@ -16,8 +16,8 @@ made : (v : Raw) (d : ℕ) (r : Row) → r ≡ row_of v.op → (x : Piece) → x
     → (t : Step) → t ≡ step v.op x y → t ≡ base_step v d
 made v d r er x ex y ey t et = rw (et, ex, ey, er)
 
-pub base-step-spec : {M : Type 1} → statement M
-base-step-spec =
+pub base_step_spec : {M : Type 1} → statement M
+base_step_spec =
     tie.close
     (tie.spec
     (λ c κs. search rules)

@@ -5,11 +5,11 @@ use Rattle.nodestep.specs.Operands.{operand_x}
 use Rattle.nodestep.proofs.first_operand.Statement.{statement}
 use Rattle.nodestep.proofs.first_operand.Tie as tie
 
-pub first-operand-spec : {M : Type 1} → statement M
+pub first_operand_spec : {M : Type 1} → statement M
 unfolding operand_x
-first-operand-spec =
+first_operand_spec =
     tie.close
     (tie.spec
     (λ c κs. search rules)
-    (λ c. simp (eq-eqb _ _ c.if1.true))
-    (λ c. simp (ne_eqb _ _ c.before.if1.false, c.wide.ensures)))
+    (λ c. simp (eq-eqb _ _ c.if-sort-eq-BOOLEAN.true))
+    (λ c. simp (ne_eqb _ _ c.before.if-sort-eq-BOOLEAN.false, c.wide.ensures)))

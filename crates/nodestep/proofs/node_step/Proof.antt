@@ -21,8 +21,8 @@ module _ (s : List ℕ) (n : ℕ) (numbers : List ℕ) (ready : Ready s n number
   any : (i : ℕ) → i ≤ 120 → i < length numbers
   any i l = let e = ready.numbered.size in omega arith
 
-pub node-step-spec : {M : Type 1} → statement M
-node-step-spec =
+pub node_step_spec : {M : Type 1} → statement M
+node_step_spec =
     tie.close
     (tie.spec
     (λ c κs. search (long, rules))

@@ -39,8 +39,8 @@ module _ (s : List ℕ) (n : ℕ) (p : Piece) (fits : Fits s n p) (no_byte : NoB
   unfolding piece_form rank Fits
   properties q e t f = rw (e, f) (property_steps (form_of s) s n q (rw e at fits))
 
-pub step-of-spec : {M : Type 1} → statement M
-step-of-spec =
+pub step_of_spec : {M : Type 1} → statement M
+step_of_spec =
     tie.close
     (tie.spec
     (λ c. search rules)

@@ -7,47 +7,47 @@ use Rattle.numbers.proofs.Counting.{Looked, Summed, looked, all_fits, booleans_f
 use Rattle.numbers.proofs.counts_of.Statement.{statement}
 use Rattle.numbers.proofs.counts_of.Tie as tie
 
-abbrev invariant-loop : tie.invariant-loop
+abbrev invariant-loop : tie.invariant-loop-k
 invariant-loop b n clocks booleans₀ all₀ k₀ booleans all k = (k ≤ n) × Summed b clocks k booleans all
 
-abbrev decreases-loop : tie.decreases-loop
+abbrev decreases-loop : tie.decreases-loop-k
 decreases-loop b n clocks booleans₀ all₀ k₀ booleans all k = n - k
 
 -- what is known when the length of a block is
-module _ (d : tie.After-length-under invariant-loop decreases-loop) where
-  abbrev row : tie.After-row-of invariant-loop decreases-loop
+module _ (d : tie.After-length_under-long invariant-loop decreases-loop) where
+  abbrev row : tie.After-row_of-r invariant-loop decreases-loop
   row = d.before.before
 
-  abbrev bytes : tie.After-node-at invariant-loop decreases-loop
+  abbrev bytes : tie.After-node_at-v invariant-loop decreases-loop
   bytes = row.before
 
-  abbrev turn : tie.At-loop invariant-loop decreases-loop
+  abbrev turn : tie.At-loop-k invariant-loop decreases-loop
   turn = bytes.before.before
 
   abbrev start : tie.Start invariant-loop decreases-loop
   start = turn.before.before.before
 
-  node : Looked start.args.b.now start.args.clocks.now turn.loop.k bytes.node_at_lem.result row.row_of.result d.length-under.result
-  node = looked _ _ _ _ _ _ start.pre.0 (omega arith) bytes.node_at_lem.ensures row.row_of.ensures d.length-under.ensures
+  node : Looked start.args.b.now start.args.clocks.now turn.loop-k.k bytes.node_at-v.result row.row_of-r.result d.length_under-long.result
+  node = looked _ _ _ _ _ _ start.requires.0 (omega arith) bytes.node_at-v.ensures row.row_of-r.ensures d.length_under-long.ensures
 
-add-booleans : tie.Need-overflow-add-booleans invariant-loop decreases-loop
+add-booleans : tie.Need-overflow_add-booleans invariant-loop decreases-loop
 add-booleans c =
     let d = c.before.before in
-    omega (arith, booleans_fit _ _ _ _ _ _ (node d) _ _ (turn d).loop.invariant.1 _ c.choose.ensures)
+    omega (arith, booleans_fit _ _ _ _ _ _ (node d) _ _ (turn d).loop-k.invariant.1 _ c.choose-booleans.ensures)
 
-add-all : tie.Need-overflow-add-all invariant-loop decreases-loop
+add-all : tie.Need-overflow_add-all invariant-loop decreases-loop
 add-all c =
     let d = c.before.before in
-    omega (arith, all_fits _ _ _ _ _ _ (node d) _ _ (turn d).loop.invariant.1)
+    omega (arith, all_fits _ _ _ _ _ _ (node d) _ _ (turn d).loop-k.invariant.1)
 
-loop-again : tie.Need-loop-preserved invariant-loop decreases-loop
+loop-again : tie.Need-loop-k-preserved invariant-loop decreases-loop
 loop-again c =
     let d = c.before.before in
-    (omega arith, summed_more _ _ _ _ _ _ (node d) _ _ (turn d).loop.invariant.1 _ c.choose.ensures)
+    (omega arith, summed_more _ _ _ _ _ _ (node d) _ _ (turn d).loop-k.invariant.1 _ c.choose-booleans.ensures)
 
-pub counts-of-spec : {M : Type 1} → statement M
+pub counts_of_spec : {M : Type 1} → statement M
 unfolding sum
-counts-of-spec =
+counts_of_spec =
     tie.close
     (tie.spec
     invariant-loop
@@ -64,6 +64,6 @@ counts-of-spec =
     (λ c. omega arith)
     loop-again
     (λ c.
-    let l = c.before.loop in
+    let l = c.before.loop-k in
     let p = c.before.before.before.before.requires in
     summed_all _ _ _ p.1 l.k (omega arith) (omega arith) _ _ l.invariant.1))

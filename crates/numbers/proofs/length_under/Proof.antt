@@ -22,8 +22,8 @@ module _ (clock block long : ℕ) (e : long ≡ block) where
   unfolding ref_of length_under
   under h = rw (ne_eqb clock 255 h) e
 
-pub length-under-spec : {M : Type 1} → statement M
-length-under-spec =
+pub length_under_spec : {M : Type 1} → statement M
+length_under_spec =
     tie.close
     (tie.spec
     (λ c κs. search rules)

@@ -10,11 +10,11 @@ use Rattle.numbers.proofs.stands.Tie as tie
 last : (clock : Bool) (operand end r : ℕ) → clock ≡ false → r ≡ end - 1 → r ≡ cond clock operand (end - 1)
 last clock operand end r h e = rw h e
 
-pub stands-spec : {M : Type 1} → statement M
-stands-spec =
+pub stands_spec : {M : Type 1} → statement M
+stands_spec =
     tie.close
     (tie.spec
-    (λ c. let h = c.before.requires.1 c.if1.false in omega arith)
+    (λ c. let h = c.before.requires.1 c.if-clock.false in omega arith)
     (λ c κs. search rules)
     (λ c. search rules)
     (λ c. search last))

@@ -24,8 +24,8 @@ module _ (x y c m n : ℕ) (t : Step) where
     unfolding delay_step
     later e f = rw (f, ne_eqb n 0 h, ne_eqb m 0 e)
 
-pub delay-step-spec : {M : Type 1} → statement M
-delay-step-spec =
+pub delay_step_spec : {M : Type 1} → statement M
+delay_step_spec =
     tie.close
     (tie.spec
     (λ c κs. search rules)

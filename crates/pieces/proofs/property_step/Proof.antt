@@ -45,8 +45,8 @@ module _ (p : PropertyPiece) (t : Step) where
   unfolding property_step
   next-not x e l0 e0 f = rw (f, e0, e)
 
-pub property-step-spec : {M : Type 1} → statement M
-property-step-spec =
+pub property_step_spec : {M : Type 1} → statement M
+property_step_spec =
     tie.close
     (tie.spec
     (λ c. search rules)

@@ -20,8 +20,8 @@ module _ (o : Subject) (m n : ℕ) (t : Step) where
   unfolding range_step
   same l f = rw (f, le-ltb m n l)
 
-pub range-step-spec : {M : Type 1} → statement M
-range-step-spec =
+pub range_step_spec : {M : Type 1} → statement M
+range_step_spec =
     tie.close
     (tie.spec
     (λ c. search rules)

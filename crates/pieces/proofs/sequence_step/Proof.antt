@@ -58,8 +58,8 @@ module _ (q : SequencePiece) (t : Step) where
   unfolding sequence_step
   next-letter x c e l0 e0 f = rw (f, e0, e)
 
-pub sequence-step-spec : {M : Type 1} → statement M
-sequence-step-spec =
+pub sequence_step_spec : {M : Type 1} → statement M
+sequence_step_spec =
     tie.close
     (tie.spec
     (λ c. search rules)

@@ -24,8 +24,8 @@ module _ (o : Subject) where
   unfolding subject_piece
   group c b e = rw e
 
-pub subject-piece-spec : {M : Type 1} → statement M
-subject-piece-spec =
+pub subject_piece_spec : {M : Type 1} → statement M
+subject_piece_spec =
     tie.close
     (tie.spec
     (λ c. search rules)

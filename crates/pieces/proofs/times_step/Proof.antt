@@ -22,8 +22,8 @@ module _ (o : Subject) (m : ℕ) (x : Piece) (ex : x ≡ subject_piece o) (t : S
   unfolding times_step
   more e f = rw (f, ex, ne_eqb m 0 e)
 
-pub times-step-spec : {M : Type 1} → statement M
-times-step-spec =
+pub times_step_spec : {M : Type 1} → statement M
+times_step_spec =
     tie.close
     (tie.spec
     (λ c κs. search rules)

@@ -3,12 +3,12 @@ use borrow.Author.Rules.{rules}
 use Rattle.plain.proofs.level_of.Statement.{statement}
 use Rattle.plain.proofs.level_of.Tie as tie
 
-pub level-of-spec : {M : Type 1} → statement M
-level-of-spec =
+pub level_of_spec : {M : Type 1} → statement M
+level_of_spec =
     tie.close
     (tie.spec
     (λ c κs. search rules)
     (λ c κs. search rules)
     (λ c κs. search rules)
     (λ c κs. search rules)
-    (λ c. simp (c.from-answers.ensures, c.before.has3.ensures, c.before.before.has2.ensures, c.before.before.before.has.ensures)))
+    (λ c. simp (c.from_answers.ensures, c.before.has-3.ensures, c.before.before.has-2.ensures, c.before.before.before.has.ensures)))

@@ -4,8 +4,8 @@ use Rattle.plain.proofs.Judging.{by_check, has-count, has_root, root_bytes, by_r
 use Rattle.plain.proofs.plain_judge.Statement.{statement}
 use Rattle.plain.proofs.plain_judge.Tie as tie
 
-pub plain-judge-spec : {M : Type 1} → statement M
-plain-judge-spec =
+pub plain_judge_spec : {M : Type 1} → statement M
+plain_judge_spec =
     tie.close
     (tie.spec
     (λ c κs. search rules)

@@ -4,8 +4,8 @@ use Rattle.plain.proofs.Judging.{root_known, root_right}
 use Rattle.plain.proofs.root_told.Statement.{statement}
 use Rattle.plain.proofs.root_told.Tie as tie
 
-pub root-told-spec : {M : Type 1} → statement M
-root-told-spec =
+pub root_told_spec : {M : Type 1} → statement M
+root_told_spec =
     tie.close
     (tie.spec
     (λ c κs. search rules)

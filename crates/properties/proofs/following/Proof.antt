@@ -7,45 +7,45 @@ use Rattle.properties.proofs.Implying.{Taken, followed_more}
 use Rattle.properties.proofs.following.Statement.{statement}
 use Rattle.properties.proofs.following.Tie as tie
 
-abbrev invariant-loop : tie.invariant-loop
+abbrev invariant-loop : tie.invariant-loop-i
 invariant-loop rows n a p neutral₀ weak₀ strong₀ i₀ neutral weak strong i =
     (i ≤ n + 1) × Taken rows a i p.neutral.bits neutral.bits × Taken rows a i p.weak.bits weak.bits × Taken rows a i p.strong.bits strong.bits
 
-abbrev decreases-loop : tie.decreases-loop
+abbrev decreases-loop : tie.decreases-loop-i
 decreases-loop rows n a p neutral₀ weak₀ strong₀ i₀ neutral weak strong i = n + 1 - i
 
 -- where each of the three sets was made
-module _ (c : tie.After-with-if3 invariant-loop decreases-loop) where
-  abbrev second : tie.After-with-if2 invariant-loop decreases-loop
+module _ (c : tie.After-with_if-strong invariant-loop decreases-loop) where
+  abbrev second : tie.After-with_if-weak invariant-loop decreases-loop
   second = c.before.before
 
-  abbrev first : tie.After-with-if invariant-loop decreases-loop
+  abbrev first : tie.After-with_if-neutral invariant-loop decreases-loop
   first = second.before.before
 
-  abbrev letters : tie.After-last-letters invariant-loop decreases-loop
+  abbrev letters : tie.After-last_letters-last invariant-loop decreases-loop
   letters = first.before.before
 
-  abbrev turn : tie.At-loop invariant-loop decreases-loop
+  abbrev turn : tie.At-loop-i invariant-loop decreases-loop
   turn = letters.before.before
 
-loop-again : tie.Need-loop-preserved invariant-loop decreases-loop
+loop-again : tie.Need-loop-i-preserved invariant-loop decreases-loop
 loop-again c =
     let s = (turn c).before.before.before.before.before.args in
-    let l = (turn c).loop.invariant in
-    let last = (letters c).last-letters.ensures in (
+    let l = (turn c).loop-i.invariant in
+    let last = (letters c).last_letters-last.ensures in (
       search rules,
-      followed_more s.rows.now s.a _ _ _ _ _ _ l.1 last (first c).before.within.ensures (first c).with-if.ensures,
-      followed_more s.rows.now s.a _ _ _ _ _ _ l.2 last (second c).before.within2.ensures (second c).with-if2.ensures,
-      followed_more s.rows.now s.a _ _ _ _ _ _ l.3 last c.before.within3.ensures c.with-if3.ensures,
+      followed_more s.rows.now s.a _ _ _ _ _ _ l.1 last (first c).before.within.ensures (first c).with_if-neutral.ensures,
+      followed_more s.rows.now s.a _ _ _ _ _ _ l.2 last (second c).before.within-in-loop-i.ensures (second c).with_if-weak.ensures,
+      followed_more s.rows.now s.a _ _ _ _ _ _ l.3 last c.before.within-in-loop-i-2.ensures c.with_if-strong.ensures,
     )
 
 returns : tie.Need-returns invariant-loop decreases-loop
 returns c =
-    let l = c.before.loop.invariant in
+    let l = c.before.loop-i.invariant in
     record { neutral = asked_upto _ _ _ _ l.1 (omega arith); weak = asked_upto _ _ _ _ l.2 (omega arith); strong = asked_upto _ _ _ _ l.3 (omega arith) }
 
-pub following-spec : {M : Type 1} → statement M
-following-spec =
+pub following_spec : {M : Type 1} → statement M
+following_spec =
     tie.close
     (tie.spec
     invariant-loop
@@ -53,7 +53,7 @@ following-spec =
     (λ c κs. search rules)
     (λ c κs. search rules)
     (λ c κs. search rules)
-    (λ c. (search rules, taken_none _ _ c.before.before.empty.ensures, taken_none _ _ c.before.empty2.ensures, taken_none _ _ c.empty3.ensures))
+    (λ c. (search rules, taken_none _ _ c.before.before.empty-neutral.ensures, taken_none _ _ c.before.empty-weak.ensures, taken_none _ _ c.empty-strong.ensures))
     (λ c κs. search rules)
     (λ c κs. search rules)
     (λ c κs. search rules)

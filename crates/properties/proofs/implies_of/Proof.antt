@@ -10,12 +10,12 @@ returns c =
     let onward = tail.before in
     let d = onward.before in
     let a = d.before.before.args in
-    let f = d.following.ensures in
+    let f = d.following-inside.ensures in
     record {
       neutral = f.neutral;
       weak = f.weak;
-      strong = follows_but a.rows.now _ a.a _ _ _ _ _ _ _ f.strong onward.word_at.ensures tail.has.ensures c.before.only_if.ensures c.without.ensures;
+      strong = follows_but a.rows.now _ a.a _ _ _ _ _ _ _ f.strong-1 onward.word_at-onward.ensures tail.has-holds.ensures c.before.only_if.ensures c.without-inside.ensures;
     }
 
-pub implies-of-spec : {M : Type 1} → statement M
-implies-of-spec = tie.close (tie.spec (λ c κs. search rules) (λ c κs. search rules) (λ c κs. search rules) (λ c κs. search rules) (λ c κs. search rules) returns)
+pub implies_of_spec : {M : Type 1} → statement M
+implies_of_spec = tie.close (tie.spec (λ c κs. search rules) (λ c κs. search rules) (λ c κs. search rules) (λ c κs. search rules) (λ c κs. search rules) returns)

@@ -6,5 +6,5 @@ use Rattle.properties.proofs.next_in_tail.Tie as tie
 returns : tie.Need-returns
 returns c k = simp (c.joined.ensures k, c.before.from.ensures k, c.before.before.down.ensures k)
 
-pub next-in-tail-spec : {M : Type 1} → statement M
-next-in-tail-spec = tie.close (tie.spec (λ c κs. search rules) (λ c κs. search rules) (λ c κs. search rules) returns)
+pub next_in_tail_spec : {M : Type 1} → statement M
+next_in_tail_spec = tie.close (tie.spec (λ c κs. search rules) (λ c κs. search rules) (λ c κs. search rules) returns)

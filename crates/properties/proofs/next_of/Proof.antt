@@ -5,7 +5,7 @@ use Rattle.properties.proofs.next_of.Tie as tie
 
 returns : tie.Need-returns
 returns c =
-    record { neutral = λ k. simp (c.before.before.with.ensures k, c.before.before.before.down.ensures k); weak = c.before.next-in-tail.ensures; strong = c.next-in-tail2.ensures }
+    record { neutral = λ k. simp (c.before.before.with.ensures k, c.before.before.before.down.ensures k); weak = c.before.next_in_tail.ensures; strong = c.next_in_tail-2.ensures }
 
-pub next-of-spec : {M : Type 1} → statement M
-next-of-spec = tie.close (tie.spec (λ c κs. search rules) (λ c κs. search rules) (λ c κs. search rules) (λ c κs. search rules) returns)
+pub next_of_spec : {M : Type 1} → statement M
+next_of_spec = tie.close (tie.spec (λ c κs. search rules) (λ c κs. search rules) (λ c κs. search rules) (λ c κs. search rules) returns)

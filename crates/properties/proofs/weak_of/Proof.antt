@@ -5,9 +5,9 @@ use Rattle.properties.proofs.weak_of.Tie as tie
 
 returns : tie.Need-returns
 returns c =
-    let inside = c.before.before.before.starts-of.ensures in
-    record { neutral = λ k. simp (c.with.ensures k, c.before.joined.ensures k, c.before.before.word_at.ensures, inside k); weak = λ k. simp (c.before.joined.ensures k, c.before.before.word_at.ensures, inside k); strong = inside }
+    let inside = c.before.before.before.starts_of-inside.ensures in
+    record { neutral = λ k. simp (c.with.ensures k, c.before.joined-open.ensures k, c.before.before.word_at.ensures, inside k); weak = λ k. simp (c.before.joined-open.ensures k, c.before.before.word_at.ensures, inside k); strong = inside }
 
-pub weak-of-spec : {M : Type 1} → statement M
-weak-of-spec =
+pub weak_of_spec : {M : Type 1} → statement M
+weak_of_spec =
     tie.close (tie.spec (λ c κs. search rules) (λ c κs. search rules) (λ c κs. search rules) (λ c κs. search rules) returns)

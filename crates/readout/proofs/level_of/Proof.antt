@@ -4,8 +4,8 @@ use Rattle.readout.proofs.Seeing.{level_read}
 use Rattle.readout.proofs.level_of.Statement.{statement}
 use Rattle.readout.proofs.level_of.Tie as tie
 
-pub level-of-spec : {M : Type 1} → statement M
-level-of-spec =
+pub level_of_spec : {M : Type 1} → statement M
+level_of_spec =
     tie.close
     (tie.spec
     (λ c κs. search rules)

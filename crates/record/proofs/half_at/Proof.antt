@@ -5,8 +5,8 @@ use Rattle.record.proofs.Samples.{half}
 use Rattle.record.proofs.half_at.Statement.{statement}
 use Rattle.record.proofs.half_at.Tie as tie
 
-pub half-at-spec : {M : Type 1} → statement M
-half-at-spec =
+pub half_at_spec : {M : Type 1} → statement M
+half_at_spec =
     tie.close
     (tie.spec
     (λ c. search rules)

@@ -10,14 +10,14 @@ use Rattle.record.proofs.Samples.{none_written, one_written, all_written}
 use Rattle.record.proofs.put_samples.Statement.{statement}
 use Rattle.record.proofs.put_samples.Tie as tie
 
-abbrev invariant-loop : tie.invariant-loop
+abbrev invariant-loop : tie.invariant-loop-i
 invariant-loop b n out₀ i₀ out i = (i ≤ n) × (length out ≡ length out₀) × (out ≡ samples b i ++ drop i out₀)
 
-abbrev decreases-loop : tie.decreases-loop
+abbrev decreases-loop : tie.decreases-loop-i
 decreases-loop b n out₀ i₀ out i = n - i
 
-pub put-samples-spec : {M : Type 1} → statement M
-put-samples-spec =
+pub put_samples_spec : {M : Type 1} → statement M
+put_samples_spec =
     tie.close
     (tie.spec
     invariant-loop

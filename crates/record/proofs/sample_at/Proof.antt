@@ -5,8 +5,8 @@ use Rattle.record.proofs.Samples.{whole}
 use Rattle.record.proofs.sample_at.Statement.{statement}
 use Rattle.record.proofs.sample_at.Tie as tie
 
-pub sample-at-spec : {M : Type 1} → statement M
-sample-at-spec =
+pub sample_at_spec : {M : Type 1} → statement M
+sample_at_spec =
     tie.close
     (tie.spec
     (λ c. search rules)

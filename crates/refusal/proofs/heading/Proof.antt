@@ -49,8 +49,8 @@ module _ (letter newest : ℕ) (s : List ℕ) where
       unfolding heading_cases
       passes h = heading_answers letter newest s _ (sym (left2 ∙ skip _ _ _ (sym is_known ∙ h) ∙ through))
 
-pub heading-spec : {M : Type 1} → statement M
-heading-spec =
+pub heading_spec : {M : Type 1} → statement M
+heading_spec =
     tie.close
     (tie.spec
     (λ c. search short)

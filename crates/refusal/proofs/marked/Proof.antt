@@ -16,28 +16,28 @@ third : (letter : ℕ) (s : List ℕ) → get_or s 0 0 ≡ 83 → get_or s 1 0 �
 unfolding is_marked
 third letter s p q = simp (eq-eqb _ _ p, eq-eqb _ _ q)
 
-shared-slice-read-if1 : tie.Need-shared-slice-read-if1
+shared-slice-read-if1 : tie.Need-bounds-b-0
 shared-slice-read-if1 c = search rules
 
-returns : tie.Need-returns
+returns : tie.Need-returns-then-b-ne83
 unfolding is_marked
-returns c = simp (ne_eqb _ _ c.if1.true)
+returns c = simp (ne_eqb _ _ c.if-b-ne83.true)
 
-shared-slice-read-if2 : tie.Need-shared-slice-read-if2
+shared-slice-read-if2 : tie.Need-bounds-b-1
 shared-slice-read-if2 c = search rules
 
-returns-2 : tie.Need-returns-2
+returns-2 : tie.Need-returns-then-b-ne86
 unfolding is_marked
-returns-2 c = simp (eq-eqb _ _ c.before.before.if1.false, ne_eqb _ _ c.if2.true)
+returns-2 c = simp (eq-eqb _ _ c.before.before.if-b-ne83.false, ne_eqb _ _ c.if-b-ne86.true)
 
-shared-slice-read-result : tie.Need-shared-slice-read-result
+shared-slice-read-result : tie.Need-bounds-b-2
 shared-slice-read-result c = search rules
 
-returns-3 : tie.Need-returns-3
-returns-3 c = third _ _ c.before.before.before.if1.false c.before.if2.false
+returns-3 : tie.Need-returns
+returns-3 c = third _ _ c.before.before.before.if-b-ne83.false c.before.if-b-ne86.false
 
-pub marked-spec : {M : Type 1} → statement M
-marked-spec =
+pub marked_spec : {M : Type 1} → statement M
+marked_spec =
     tie.close
     (tie.spec
     shared-slice-read-if1

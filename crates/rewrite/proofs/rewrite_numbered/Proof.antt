@@ -83,8 +83,8 @@ module _ (s : List ℕ) (v : Verdict) (ev : Checks s v) where
               → Renumbers s d (renumbered (record { verdict = accepted; count = m }) clocks numbers) d'
           done g d' e numbers en = record { rewrites = rewritten g d' e; numbered = λ _. en }
 
-pub rewrite-numbered-spec : {M : Type 1} → statement M
-rewrite-numbered-spec =
+pub rewrite_numbered_spec : {M : Type 1} → statement M
+rewrite_numbered_spec =
     tie.close
     (tie.spec
     (λ c κs. search rules)

@@ -11,31 +11,31 @@ use borrow.Author.Rules.{rules}
 use Rattle.rows.proofs.fill.Statement.{statement}
 use Rattle.rows.proofs.fill.Tie as tie
 
-abbrev invariant-loop : tie.invariant-loop
+abbrev invariant-loop : tie.invariant-loop-k
 invariant-loop table samples ws₀ m k₀ ws k = (k ≤ m) × (length ws ≡ length ws₀) × (ws ≡ filled table samples ws₀ k)
 
-abbrev decreases-loop : tie.decreases-loop
+abbrev decreases-loop : tie.decreases-loop-k
 decreases-loop table samples ws₀ m k₀ ws k = m - k
 
 -- what is known when a node is decoded
 module _ (d : tie.After-decode invariant-loop decreases-loop) where
-  abbrev turn : tie.At-loop invariant-loop decreases-loop
+  abbrev turn : tie.At-loop-k invariant-loop decreases-loop
   turn = d.before.before.before.before
 
   abbrev start : tie.Start invariant-loop decreases-loop
   start = turn.before.before.before.before
 
-  node : d.decode.result ≡ node_at start.args.table.now turn.loop.k
-  node = d.decode.ensures.made ∙ ap node_of d.before.node_at_lem.ensures
+  node : d.decode.result ≡ node_at start.args.table.now turn.loop-k.k
+  node = d.decode.ensures.made ∙ ap node_of d.before.node_at.ensures
 
-put-row-requires : tie.Need-put-row-requires invariant-loop decreases-loop
-put-row-requires c κs = (search rules, rw (node c) ((start c).requires.ready (turn c).loop.k (search rules)), search rules)
+put-row-requires : tie.Need-put_row-requires invariant-loop decreases-loop
+put-row-requires c κs = (search rules, rw (node c) ((start c).requires.ready (turn c).loop-k.k (search rules)), search rules)
 
-loop-again : tie.Need-loop-preserved invariant-loop decreases-loop
+loop-again : tie.Need-loop-k-preserved invariant-loop decreases-loop
 loop-again c =
-    let r = c.before.before.put-row in
+    let r = c.before.before.put_row in
     let d = c.before.before.before in
-    let l = (turn d).loop.invariant in
+    let l = (turn d).loop-k.invariant in
     (search rules, r.auto.0 ∙ l.1, filled-step _ _ _ _ _ _ d.decode.result l.2 (node d) r.ensures)
 
 pub fill_spec : {M : Type 1} → statement M
@@ -52,4 +52,4 @@ fill_spec =
     (λ c. search rules)
     loop-again
     (λ c. search rules)
-    (λ c. c.before.loop.invariant.2 ∙ ap (filled _ _ _) (omega arith)))
+    (λ c. c.before.loop-k.invariant.2 ∙ ap (filled _ _ _) (omega arith)))

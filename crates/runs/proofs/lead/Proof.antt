@@ -6,14 +6,14 @@ use borrow.Author.Rules.{rules}
 use Rattle.runs.proofs.lead.Statement.{statement}
 use Rattle.runs.proofs.lead.Tie as tie
 
-abbrev invariant-loop : tie.invariant-loop
+abbrev invariant-loop : tie.invariant-loop-d
 invariant-loop a₀ d₀ a d = Power d × LedBy a₀ d a
 
-abbrev decreases-loop : tie.decreases-loop
+abbrev decreases-loop : tie.decreases-loop-d
 decreases-loop a₀ d₀ a d = 64 - d
 
-pub lead-spec : {M : Type 1} → statement M
-lead-spec =
+pub lead_spec : {M : Type 1} → statement M
+lead_spec =
     tie.close
     (tie.spec
     invariant-loop
@@ -21,6 +21,6 @@ lead-spec =
     (λ c. (power_one, led_one _))
     (λ c κs. search rules)
     (λ c. search rules)
-    (λ c. let h = power_pos _ c.before.before.loop.invariant.0 in omega arith)
-    (λ c. let i = c.before.before.loop.invariant in (power_more _ i.0 (search rules), led_turn _ _ _ _ i.1 c.further.ensures))
-    (λ c. let i = c.before.before.loop.invariant in led_all _ _ _ i.0 (search rules) i.1))
+    (λ c. let h = power_pos _ c.before.before.loop-d.invariant.0 in omega arith)
+    (λ c. let i = c.before.before.loop-d.invariant in (power_more _ i.0 (search rules), led_turn _ _ _ _ i.1 c.further-a.ensures))
+    (λ c. let i = c.before.before.loop-d.invariant in led_all _ _ _ i.0 (search rules) i.1))

@@ -10,22 +10,22 @@ use Rattle.sequences.proofs.Making.{either_ends, Up, lent, below, row_below, up_
 use Rattle.sequences.proofs.put_either.Statement.{statement}
 use Rattle.sequences.proofs.put_either.Tie as tie
 
-abbrev invariant-loop : tie.invariant-loop
+abbrev invariant-loop : tie.invariant-loop-i
 invariant-loop ws₀ k a b n at i₀ ws i = Up ws₀ k n (Either a b) i ws
 
-abbrev decreases-loop : tie.decreases-loop
+abbrev decreases-loop : tie.decreases-loop-i
 decreases-loop ws₀ k a b n at i₀ ws i = n + 1 - i
 
 -- what is known in a turn
-module _ (d : tie.At-loop invariant-loop decreases-loop) where
+module _ (d : tie.At-loop-i invariant-loop decreases-loop) where
   abbrev start : tie.Start invariant-loop decreases-loop
   start = d.before.before
 
-loop-again : tie.Need-loop-preserved invariant-loop decreases-loop
+loop-again : tie.Need-loop-i-preserved invariant-loop decreases-loop
 loop-again c =
     let turn = c.before.before.before.before.before in
     let a = (start turn).args in
-    up_one turn.loop.invariant _ (search rules) (search rules) (either_ends (take (share * a.k) turn.loop.ws) a.n a.a a.b _ _ _ _ c.before.before.word_at.ensures c.before.word-at2.ensures c.joined.ensures)
+    up_one turn.loop-i.invariant _ (search rules) (search rules) (either_ends (take (share * a.k) turn.loop-i.ws) a.n a.a a.b _ _ _ _ c.before.before.word_at.ensures c.before.word_at-in-loop-i.ensures c.joined-ends.ensures)
 
 pub put_either_spec : {M : Type 1} → statement M
 put_either_spec =
@@ -36,9 +36,9 @@ put_either_spec =
     (λ c. search rules)
     (λ c. up_none _ (lent _ _ _ (search rules) (search rules)))
     (λ c. search rules)
-    (λ c. below c.before.before.loop.invariant.its)
-    (λ c κs. let turn = c.before.before in (row_below _ turn.loop.invariant.its (start turn).requires.1, search rules))
-    (λ c κs. let turn = c.before.before.before in (row_below _ turn.loop.invariant.its (start turn).requires.2, search rules))
+    (λ c. below c.before.before.loop-i.invariant.its)
+    (λ c κs. let turn = c.before.before in (row_below _ turn.loop-i.invariant.its (start turn).requires.1, search rules))
+    (λ c κs. let turn = c.before.before.before in (row_below _ turn.loop-i.invariant.its (start turn).requires.2, search rules))
     (λ c κs. search rules)
     (λ c. search rules)
     (λ c. search rules)
@@ -48,4 +48,4 @@ put_either_spec =
     loop-again
     (λ c κs. search rules)
     (λ c. search rules)
-    (λ c. up_all c.before.before.loop.invariant _ (omega arith) (λ j. refl) c.empty.ensures))
+    (λ c. up_all c.before.before.loop-i.invariant _ (omega arith) (λ j. refl) c.empty.ensures))

@@ -8,38 +8,38 @@ use Rattle.sequences.proofs.Making.{Down, lent, below, row_below, down_none, dow
 use Rattle.sequences.proofs.put_repeat.Statement.{statement}
 use Rattle.sequences.proofs.put_repeat.Tie as tie
 
-abbrev invariant-loop : tie.invariant-loop
+abbrev invariant-loop : tie.invariant-loop-i
 invariant-loop ws₀ k a n at forward tops₀ i₀ ws tops i = Down ws₀ k n (Repeat a) i tops.bits ws
 
-abbrev decreases-loop : tie.decreases-loop
+abbrev decreases-loop : tie.decreases-loop-i
 decreases-loop ws₀ k a n at forward tops₀ i₀ ws tops i = i
 
 -- what is known in a turn
-module _ (d : tie.At-loop invariant-loop decreases-loop) where
-  abbrev asked : tie.After-leads-forward invariant-loop decreases-loop
+module _ (d : tie.At-loop-i invariant-loop decreases-loop) where
+  abbrev asked : tie.After-leads_forward-forward invariant-loop decreases-loop
   asked = d.before.before
 
   abbrev start : tie.Start invariant-loop decreases-loop
   start = asked.before.before.before
 
-loop-holds : tie.Need-loop-init invariant-loop decreases-loop
-loop-holds c = down_none _ _ (lent _ _ _ (search rules) (search rules)) c.empty.ensures
+loop-holds : tie.Need-loop-i-init invariant-loop decreases-loop
+loop-holds c = down_none _ _ (lent _ _ _ (search rules) (search rules)) c.empty-tops.ensures
 
-repeat-from-requires : tie.Need-repeat-from-requires invariant-loop decreases-loop
+repeat-from-requires : tie.Need-repeat_from-found-requires invariant-loop decreases-loop
 repeat-from-requires c κs =
     let turn = c.before.before.before.before in
-    let u = turn.loop.invariant in (
+    let u = turn.loop-i.invariant in (
       (row_below _ u.its (start turn).requires.1, search rules, search rules, own-long u),
-      (own_made u _ (omega arith), rw u.its.rows (λ e. (asked turn).leads-forward.ensures.to (passed e))),
+      (own_made u _ (omega arith), rw u.its.rows (λ e. (asked turn).leads_forward-forward.ensures.to (passed e))),
     )
 
-loop-again : tie.Need-loop-preserved invariant-loop decreases-loop
+loop-again : tie.Need-loop-i-preserved invariant-loop decreases-loop
 loop-again c =
-    let found = c.before.repeat-from in
-    down_one c.before.before.before.before.before.before.loop.invariant _ _ found.result (omega arith) (search rules) found.ensures c.with-if.ensures
+    let found = c.before.repeat_from-found in
+    down_one c.before.before.before.before.before.before.loop-i.invariant _ _ found.result (omega arith) (search rules) found.ensures c.with_if-tops.ensures
 
-pub put-repeat-spec : {M : Type 1} → statement M
-put-repeat-spec =
+pub put_repeat_spec : {M : Type 1} → statement M
+put_repeat_spec =
     tie.close
     (tie.spec
     invariant-loop
@@ -52,7 +52,7 @@ put-repeat-spec =
     (λ c. search rules)
     loop-holds
     (λ c. search rules)
-    (λ c. below c.before.before.before.loop.invariant.its)
+    (λ c. below c.before.before.before.loop-i.invariant.its)
     (λ c. search rules)
     (λ c. search rules)
     (λ c. search rules)
@@ -65,4 +65,4 @@ put-repeat-spec =
     (λ c. search rules)
     loop-again
     (λ c. search rules)
-    (λ c. down_all c.before.loop.invariant (omega arith)))
+    (λ c. down_all c.before.loop-i.invariant (omega arith)))

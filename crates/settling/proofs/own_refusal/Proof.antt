@@ -3,8 +3,8 @@ use Rattle.settling.proofs.Refusing.{first_root, first_many, first-long, first_a
 use Rattle.settling.proofs.own_refusal.Statement.{statement}
 use Rattle.settling.proofs.own_refusal.Tie as tie
 
-pub own-refusal-spec : {M : Type 1} → statement M
-own-refusal-spec =
+pub own_refusal_spec : {M : Type 1} → statement M
+own_refusal_spec =
     tie.close
     (tie.spec
     (λ c. search first_root)

@@ -5,14 +5,14 @@ use Rattle.settling.proofs.settle.Statement.{statement}
 use Rattle.settling.proofs.settle.Tie as tie
 
 -- where the table has no refusal of its own, the call that rewrote it, and the start
-abbrev found : tie.Else1 → tie.After-rewrite-numbered
+abbrev found : tie.Else-of_the_table → tie.After-rewrite_numbered-rewriting
 found e = e.before.before.before.before.before.before.before.before.before.before
 
-abbrev start : tie.Else1 → tie.Start
+abbrev start : tie.Else-of_the_table → tie.Start
 start e = (found e).before.before.before.before.before.before.before.before
 
-pub settle-spec : {M : Type 1} → statement M
-settle-spec =
+pub settle_spec : {M : Type 1} → statement M
+settle_spec =
     tie.close
     (tie.spec
     (λ c κs. search rules)
@@ -27,7 +27,7 @@ settle-spec =
     (λ c.
     let e = c.before.before.before.before in
     let a = start e in
-    shares_fit a.args.b.now a.args.wrong a.args.n a.args.start a.args.words _ a.pre.0 _ _ (found e).rewrite-numbered.ensures)
+    shares_fit a.args.b.now a.args.wrong a.args.n a.args.start a.args.words _ a.requires.0 _ _ (found e).rewrite_numbered-rewriting.ensures)
     (λ c κs. search rules)
     (λ c. search rules)
     (λ c. search rules)
@@ -36,4 +36,4 @@ settle-spec =
     let sort = c.before.before in
     let e = sort.before.before.before in
     let a = start e in
-    settled a.args.b.now a.args.wrong a.args.n a.args.start a.args.words _ a.pre.0 _ _ (found e).rewrite-numbered.ensures e.if1.false _ _ sort.before.wide.ensures sort.sort-at.ensures _ c.own-refusal.ensures))
+    settled a.args.b.now a.args.wrong a.args.n a.args.start a.args.words _ a.requires.0 _ _ (found e).rewrite_numbered-rewriting.ensures e.if-of_the_table.false _ _ sort.before.wide-root.ensures sort.sort_at.ensures _ c.own_refusal-verdict.ensures))

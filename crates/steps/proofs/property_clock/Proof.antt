@@ -4,8 +4,8 @@ use borrow.Author.Rules.{rules}
 use Rattle.steps.proofs.property_clock.Statement.{statement}
 use Rattle.steps.proofs.property_clock.Tie as tie
 
-pub property-clock-spec : {M : Type 1} → statement M
-property-clock-spec =
+pub property_clock_spec : {M : Type 1} → statement M
+property_clock_spec =
     tie.close
     (tie.spec
     (λ c. search rules)
@@ -18,13 +18,13 @@ property-clock-spec =
     (λ c. search rules)
     (λ c. search rules)
     (λ c. search rules)
-    (λ c. rw c.enum_told.given.1 refl)
-    (λ c. rw c.enum-told2.given.1 refl)
-    (λ c. rw c.enum-told3.given.1 refl)
-    (λ c. rw c.enum-told4.given.1 refl)
-    (λ c. rw c.enum-told5.given.1 refl)
-    (λ c. rw c.enum-told6.given.1 refl)
-    (λ c. rw c.enum-told7.given.1 refl)
-    (λ c. rw c.enum-told8.given.1 refl)
-    (λ c. rw c.enum-told9.given.1 refl)
-    (λ c. rw c.enum-told10.given.1 refl))
+    (λ c. rw c.enum_told-1.given.1 refl)
+    (λ c. rw c.enum_told-in-Weak-1.given.1 refl)
+    (λ c. rw c.enum_told-in-Negated-1.given.1 refl)
+    (λ c. rw c.enum_told-in-AnyOf-1.given.1 refl)
+    (λ c. rw c.enum_told-in-BothOf-1.given.1 refl)
+    (λ c. rw c.enum_told-in-Implies-1.given.1 refl)
+    (λ c. rw c.enum_told-in-Next-1.given.1 refl)
+    (λ c. rw c.enum_told-in-Until-1.given.1 refl)
+    (λ c. rw c.enum_told-in-Ticked-1.given.1 refl)
+    (λ c. rw c.enum_told-in-Defined-1.given.1 refl))

@@ -4,8 +4,8 @@ use borrow.Author.Rules.{rules}
 use Rattle.steps.proofs.sequence_clock.Statement.{statement}
 use Rattle.steps.proofs.sequence_clock.Tie as tie
 
-pub sequence-clock-spec : {M : Type 1} → statement M
-sequence-clock-spec =
+pub sequence_clock_spec : {M : Type 1} → statement M
+sequence_clock_spec =
     tie.close
     (tie.spec
     (λ c. search rules)
@@ -16,11 +16,11 @@ sequence-clock-spec =
     (λ c. search rules)
     (λ c. search rules)
     (λ c. search rules)
-    (λ c. rw c.enum_told.given.1 refl)
-    (λ c. rw c.enum-told2.given.1 refl)
-    (λ c. rw c.enum-told3.given.1 refl)
-    (λ c. rw c.enum-told4.given.1 refl)
-    (λ c. rw c.enum-told5.given.1 refl)
-    (λ c. rw c.enum-told6.given.1 refl)
-    (λ c. rw c.enum-told7.given.1 refl)
-    (λ c. rw c.enum-told8.given.1 refl))
+    (λ c. rw c.enum_told-1.given.1 refl)
+    (λ c. rw c.enum_told-in-Then-1.given.1 refl)
+    (λ c. rw c.enum_told-in-Fused-1.given.1 refl)
+    (λ c. rw c.enum_told-in-Either-1.given.1 refl)
+    (λ c. rw c.enum_told-in-Empty-1.given.1 refl)
+    (λ c. rw c.enum_told-in-Repeat-1.given.1 refl)
+    (λ c. rw c.enum_told-in-Clocked-1.given.1 refl)
+    (λ c. rw c.enum_told-in-Derived-1.given.1 refl))

@@ -13,8 +13,8 @@ of-base : (s : List ℕ) (r : Verdict) → ChecksTo base s r → Checks s r
 unfolding refusals
 of-base s r c = c
 
-pub check-spec : {M : Type 1} → statement M
-check-spec =
+pub check_spec : {M : Type 1} → statement M
+check_spec =
     tie.close
     (tie.spec
     (λ c κs. search rules)

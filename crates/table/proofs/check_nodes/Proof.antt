@@ -55,8 +55,8 @@ module _ (s : List ℕ) (n u : ℕ) (eu : u ≡ first (unfit s) 0 n) where
         unfolding node_cases
         accepts h = sym (left3 ∙ skip _ _ _ (le-ltb _ _ (rw eo at h)) ∙ through)
 
-pub check-nodes-spec : {M : Type 1} → statement M
-check-nodes-spec =
+pub check_nodes_spec : {M : Type 1} → statement M
+check_nodes_spec =
     tie.close
     (tie.spec
     (λ c κs. search rules)

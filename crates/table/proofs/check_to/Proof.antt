@@ -58,8 +58,8 @@ module _ (newest : ℕ) (s : List ℕ) (v : Verdict) (ev : Answers (heading_refu
           unfolding checked_to later_cases
           nodes g r er = checks s newest r (er ∙ sym (left1 ∙ skip _ _ _ (rw (← en) (ap not (eq-eqb _ _ g))) ∙ ap (λ (m : ℕ). first_case (node_cases s m)) (sym en)))
 
-pub check-to-spec : {M : Type 1} → statement M
-check-to-spec =
+pub check_to_spec : {M : Type 1} → statement M
+check_to_spec =
     tie.close
     (tie.spec
     (λ c κs. search rules)

@@ -4,8 +4,8 @@ use Rattle.tested.proofs.Setting.{letter_made, walk_made}
 use Rattle.tested.proofs.implies_set.Statement.{statement}
 use Rattle.tested.proofs.implies_set.Tie as tie
 
-pub implies-set-spec : {M : Type 1} → statement M
-implies-set-spec =
+pub implies_set_spec : {M : Type 1} → statement M
+implies_set_spec =
     tie.close
     (tie.spec
     (λ c κs. search rules)

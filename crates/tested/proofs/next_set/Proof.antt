@@ -5,12 +5,12 @@ use Rattle.tested.proofs.Setting.{second_as}
 use Rattle.tested.proofs.next_set.Statement.{statement}
 use Rattle.tested.proofs.next_set.Tie as tie
 
-pub next-set-spec : {M : Type 1} → statement M
-next-set-spec =
+pub next_set_spec : {M : Type 1} → statement M
+next_set_spec =
     tie.close
     (tie.spec
     (λ c κs. search rules)
-    (λ c k. rw (eq-eqb _ 255 c.before.if1.true) (c.down.ensures k))
+    (λ c k. rw (eq-eqb _ 255 c.before.if-clock-eq-UNCLOCKED.true) (c.down.ensures k))
     (λ c κs. search rules)
     (λ c κs. search rules)
-    (λ c k. rw (ne_eqb _ 255 c.before.before.if1.false) (second_as _ _ _ _ _ c.before.ticks-of.ensures c.second-tick.ensures k)))
+    (λ c k. rw (ne_eqb _ 255 c.before.before.if-clock-eq-UNCLOCKED.false) (second_as _ _ _ _ _ c.before.ticks_of-ticks.ensures c.second_tick.ensures k)))

@@ -3,8 +3,8 @@ use borrow.Author.Rules.{rules}
 use Rattle.tested.proofs.row_for.Statement.{statement}
 use Rattle.tested.proofs.row_for.Tie as tie
 
-pub row-for-spec : {M : Type 1} → statement M
-row-for-spec =
+pub row_for_spec : {M : Type 1} → statement M
+row_for_spec =
     tie.close
     (tie.spec
     (λ c κs. search rules)

@@ -3,8 +3,8 @@ use borrow.Author.Rules.{rules}
 use Rattle.tested.proofs.set_for.Statement.{statement}
 use Rattle.tested.proofs.set_for.Tie as tie
 
-pub set-for-spec : {M : Type 1} → statement M
-set-for-spec =
+pub set_for_spec : {M : Type 1} → statement M
+set_for_spec =
     tie.close
     (tie.spec
     (λ c κs. search rules)

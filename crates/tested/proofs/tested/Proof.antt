@@ -5,18 +5,18 @@ use Rattle.tested.proofs.Setting.{Kept, kept_none, kept_node, kept_all, rows_the
 use Rattle.tested.proofs.tested.Statement.{statement}
 use Rattle.tested.proofs.tested.Tie as tie
 
-abbrev invariant-loop : tie.invariant-loop
+abbrev invariant-loop : tie.invariant-loop-k
 invariant-loop b m clocks numbers rows n sets₀ k₀ sets k = (k ≤ m) × Kept b clocks numbers rows n k sets
 
-abbrev decreases-loop : tie.decreases-loop
+abbrev decreases-loop : tie.decreases-loop-k
 decreases-loop b m clocks numbers rows n sets₀ k₀ sets k = m - k
 
 -- the turn in which a node's set is made
-abbrev turn : tie.After-node-set invariant-loop decreases-loop → tie.At-loop invariant-loop decreases-loop
+abbrev turn : tie.After-node_set-set invariant-loop decreases-loop → tie.At-loop-k invariant-loop decreases-loop
 turn c = c.before.before.before.before.before
 
-pub tested-spec : {M : Type 1} → statement M
-tested-spec =
+pub tested_spec : {M : Type 1} → statement M
+tested_spec =
     tie.close
     (tie.spec
     invariant-loop
@@ -30,7 +30,7 @@ tested-spec =
     (λ c. search rules)
     (λ c. search rules)
     (λ c. search rules)
-    (λ c. (search rules, kept_node _ _ _ _ _ _ _ (turn c).loop.invariant.1 (search rules) _ c.before.node_at_lem.ensures _ (search rules) c.node-set.ensures))
+    (λ c. (search rules, kept_node _ _ _ _ _ _ _ (turn c).loop-k.invariant.1 (search rules) _ c.before.node_at.ensures _ (search rules) c.node_set-set.ensures))
     (λ c. search rules)
     (λ c. search rules)
     (λ c. search rules)

@@ -4,8 +4,8 @@ use Rattle.tested.proofs.Setting.{until_made}
 use Rattle.tested.proofs.until_set.Statement.{statement}
 use Rattle.tested.proofs.until_set.Tie as tie
 
-pub until-set-spec : {M : Type 1} → statement M
-until-set-spec =
+pub until_set_spec : {M : Type 1} → statement M
+until_set_spec =
     tie.close
     (tie.spec
     (λ c κs. search rules)
@@ -15,4 +15,4 @@ until-set-spec =
     (λ c.
     let holds = c.before in
     let second = holds.before in
-    until_made _ _ _ _ _ _ _ _ _ second.before.word_at.ensures second.word-at2.ensures holds.without.ensures c.tick-run.ensures))
+    until_made _ _ _ _ _ _ _ _ _ second.before.word_at.ensures second.word_at-2.ensures holds.without-holds.ensures c.tick_run.ensures))

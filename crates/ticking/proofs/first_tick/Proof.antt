@@ -4,5 +4,5 @@ use Rattle.ticking.proofs.Turning.{first_made}
 use Rattle.ticking.proofs.first_tick.Statement.{statement}
 use Rattle.ticking.proofs.first_tick.Tie as tie
 
-pub first-tick-spec : {M : Type 1} → statement M
-first-tick-spec = tie.close (tie.spec (λ c κs. search rules) (λ c κs. search rules) (λ c. first_made _ _ _ _ _ _ c.before.empty.ensures c.tick-run.ensures))
+pub first_tick_spec : {M : Type 1} → statement M
+first_tick_spec = tie.close (tie.spec (λ c κs. search rules) (λ c κs. search rules) (λ c. first_made _ _ _ _ _ _ c.before.empty.ensures c.tick_run.ensures))

@@ -55,8 +55,8 @@ module _ (F : ℕ → Form) (s : List ℕ) (n : ℕ) (p : Piece) (st : Step) (h 
   fits-y : Fits s n st.y
   fits-y = h.fits_y
 
-pub +put-piece-spec : {M : Type 1} → statement M
-+put-piece-spec =
+pub +put_piece_spec : {M : Type 1} → statement M
++put_piece_spec =
     close μ-put-piece
     (λ t.
     put-piece-lts.spec
@@ -101,7 +101,7 @@ pub +put-piece-spec : {M : Type 1} → statement M
     let px = e3.before.before.before in
     let st = px.before.before in
     let start = st.before.before.before.before.before.before.before in
-    let r = room _ _ _ _ _ st.step_of_lem.ensures _ _ _ _ _ px.put-piece.ensures e3.if3.false _ _ py.put-piece2.ensures e4.if4.false in
+    let r = room _ _ _ _ _ st.step_of.ensures _ _ _ _ _ px.put-piece.ensures e3.if3.false _ _ py.put-piece2.ensures e4.if4.false in
     let k1 = px.put-piece.auto.0 in
     let k2 = py.put-piece2.auto.0 in
     let l = start.requires.1.4 in
@@ -119,6 +119,6 @@ pub +put-piece-spec : {M : Type 1} → statement M
     let px = e3.before.before.before in
     let st = px.before.before in
     let start = st.before.before.before.before.before.before.before in
-    let r = room _ _ _ _ _ st.step_of_lem.ensures _ _ _ _ _ px.put-piece.ensures e3.if3.false _ _ py.put-piece2.ensures e4.if4.false in
+    let r = room _ _ _ _ _ st.step_of.ensures _ _ _ _ _ px.put-piece.ensures e3.if3.false _ _ py.put-piece2.ensures e4.if4.false in
     let l = start.requires.1.4 in
-    puts_node _ _ _ _ _ st.step_of_lem.ensures _ _ _ _ _ px.put-piece.ensures e3.if3.false _ _ py.put-piece2.ensures e4.if4.false (omega arith) _ _ q.before.placed.ensures q.placed2.ensures _ c.before.before.put-node.ensures))
+    puts_node _ _ _ _ _ st.step_of.ensures _ _ _ _ _ px.put-piece.ensures e3.if3.false _ _ py.put-piece2.ensures e4.if4.false (omega arith) _ _ q.before.placed.ensures q.placed2.ensures _ c.before.before.put-node.ensures))

@@ -43,8 +43,8 @@ module _ (p : Piece) (next : ℕ) where
   unfolding placed_by
   property q e r f = rw (e, f)
 
-pub placed-spec : {M : Type 1} → statement M
-placed-spec =
+pub placed_spec : {M : Type 1} → statement M
+placed_spec =
     tie.close
     (tie.spec
     (λ c. search rules)

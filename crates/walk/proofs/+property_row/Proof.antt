@@ -10,7 +10,7 @@ use Rattle.walk.proofs.property_row.Kinds as property-row-kinds
 use Rattle.walk.proofs.+property_row.Lts-property_row as property-row-lts
 use Rattle.conditions.proofs.set_at.Reads as set-at-reads
 use Rattle.nodes.proofs.decode.Reads as decode-reads
-use Rattle.nodes.proofs.node_at_lem.Reads as node-at-reads
+use Rattle.nodes.proofs.node_at.Reads as node-at-reads
 use Rattle.refusal.proofs.wide.Reads as wide-reads
 use Rattle.steps.proofs.property_clock.Reads as property-clock-reads
 use Rattle.steps.proofs.property_step.Reads as property-step-reads
@@ -28,8 +28,8 @@ property-row-at t = and 3 property-row-kinds.ps (is 3 property-row-kinds.ps μ-p
 abbrev property-row-below : ℕ → In 3 property-row-kinds.ps
 property-row-below t = and 3 property-row-kinds.ps (falls 3 property-row-kinds.ps ◌<◌ μ-property-row t) property_row.Pre
 
-pub +property-row-spec : {M : Type 1} → statement M
-+property-row-spec =
+pub +property_row_spec : {M : Type 1} → statement M
++property_row_spec =
     close μ-property-row
     (λ t.
     property-row-lts.spec
@@ -53,20 +53,20 @@ pub +property-row-spec : {M : Type 1} → statement M
     -- wide-requires
     (λ c κs. search rules)
     -- set-at-requires
-    (λ w κs. let s = w.before.before.before.before.before.before.before.before.before in set_there _ _ _ s.pre.1.0 _ s.pre.1.1 _ (property_x _ _ _ s.pre.1.0 _ s.pre.1.1 _ w.before.before.before.before.before.node_at_lem.ensures _ w.before.before.before.before.decode.ensures _ w.before.before.node.given.1 _ w.wide.ensures))
+    (λ w κs. let s = w.before.before.before.before.before.before.before.before.before in set_there _ _ _ s.pre.1.0 _ s.pre.1.1 _ (property_x _ _ _ s.pre.1.0 _ s.pre.1.1 _ w.before.before.before.before.before.node_at.ensures _ w.before.before.before.before.decode.ensures _ w.before.before.node.given.1 _ w.wide.ensures))
     -- property-clock-requires
     (λ c κs. search rules)
     -- sequence-row-requires
     (λ c κs.
     let w = c.before.before in
     let s = w.before.before.before.before.before.before.before.before.before in
-    let l = property_x _ _ _ s.requires.1.0 _ s.requires.1.1 _ w.before.before.before.before.before.node_at_lem.ensures _ w.before.before.before.before.decode.ensures _ w.before.before.node.given.1 _ w.wide.ensures in
+    let l = property_x _ _ _ s.requires.1.0 _ s.requires.1.1 _ w.before.before.before.before.before.node_at.ensures _ w.before.before.before.before.decode.ensures _ w.before.before.node.given.1 _ w.wide.ensures in
     (fallen _ _ _ _ s.requires.0 s.requires.1 l).1)
     -- property-row-requires
     (λ c κs.
     let w = c.before.before.before in
     let s = w.before.before.before.before.before.before.before.before.before in
-    let l = property_x _ _ _ s.requires.1.0 _ s.requires.1.1 _ w.before.before.before.before.before.node_at_lem.ensures _ w.before.before.before.before.decode.ensures _ w.before.before.node.given.1 _ w.wide.ensures in
+    let l = property_x _ _ _ s.requires.1.0 _ s.requires.1.1 _ w.before.before.before.before.before.node_at.ensures _ w.before.before.before.before.decode.ensures _ w.before.before.node.given.1 _ w.wide.ensures in
     fallen _ _ _ _ s.requires.0 s.requires.1 l)
     -- wide-requires-2
     (λ c κs. search rules)
@@ -74,7 +74,7 @@ pub +property-row-spec : {M : Type 1} → statement M
     (λ c κs.
     let w = c.before.before.before.before.before in
     let s = w.before.before.before.before.before.before.before.before.before in
-    let l = property_y _ _ _ s.requires.1.0 _ s.requires.1.1 _ w.before.before.before.before.before.node_at_lem.ensures _ w.before.before.before.before.decode.ensures _ w.before.before.node.given.1 _ c.wide2.ensures in
+    let l = property_y _ _ _ s.requires.1.0 _ s.requires.1.1 _ w.before.before.before.before.before.node_at.ensures _ w.before.before.before.before.decode.ensures _ w.before.before.node.given.1 _ c.wide2.ensures in
     fallen _ _ _ _ s.requires.0 s.requires.1 l)
     -- property-step-requires
     (λ c κs. (search rules, c.before.before.before.before.before.before.before.before.before.before.before.before.before.before.before.before.requires.1.0.shaped.short))
@@ -86,5 +86,5 @@ pub +property-row-spec : {M : Type 1} → statement M
     (λ c.
     let w = c.before.before.before.before.before.before.before.before in
     let s = w.before.before.before.before.before.before.before.before.before in
-    told-property _ _ _ s.requires.1.0 _ s.requires.1.1 _ w.before.before.before.before.before.node_at_lem.ensures _ w.before.before.before.before.decode.ensures _ _ w.before.before.node.given.1 _ _ w.wide.ensures c.before.before.before.wide2.ensures _ c.before.before.before.before.before.before.before.set_at.ensures _
+    told-property _ _ _ s.requires.1.0 _ s.requires.1.1 _ w.before.before.before.before.before.node_at.ensures _ w.before.before.before.before.decode.ensures _ _ w.before.before.node.given.1 _ _ w.wide.ensures c.before.before.before.wide2.ensures _ c.before.before.before.before.before.before.before.set_at.ensures _
     c.before.before.before.before.before.before.property-clock.ensures _ _ _ _ c.before.before.before.before.before.sequence_row.ensures c.before.before.before.before.property_row.ensures c.before.before.property-row2.ensures c.property-step.ensures))

@@ -10,7 +10,7 @@ use Rattle.walk.proofs.sequence_row.Kinds as sequence-row-kinds
 use Rattle.walk.proofs.+sequence_row.Lts-sequence_row as sequence-row-lts
 use Rattle.conditions.proofs.set_at.Reads as set-at-reads
 use Rattle.nodes.proofs.decode.Reads as decode-reads
-use Rattle.nodes.proofs.node_at_lem.Reads as node-at-reads
+use Rattle.nodes.proofs.node_at.Reads as node-at-reads
 use Rattle.refusal.proofs.wide.Reads as wide-reads
 use Rattle.steps.proofs.sequence_clock.Reads as sequence-clock-reads
 use Rattle.steps.proofs.sequence_step.Reads as sequence-step-reads
@@ -26,8 +26,8 @@ sequence-row-at t = and 3 sequence-row-kinds.ps (is 3 sequence-row-kinds.ps μ-s
 abbrev sequence-row-below : ℕ → In 3 sequence-row-kinds.ps
 sequence-row-below t = and 3 sequence-row-kinds.ps (falls 3 sequence-row-kinds.ps ◌<◌ μ-sequence-row t) sequence_row.Pre
 
-pub +sequence-row-spec : {M : Type 1} → statement M
-+sequence-row-spec =
+pub +sequence_row_spec : {M : Type 1} → statement M
++sequence_row_spec =
     close μ-sequence-row
     (λ t.
     sequence-row-lts.spec
@@ -45,14 +45,14 @@ pub +sequence-row-spec : {M : Type 1} → statement M
     -- wide-requires
     (λ c κs. search rules)
     -- set-at-requires
-    (λ w κs. let s = w.before.before.before.before.before.before.before.before.before in set_there _ _ _ s.pre.1.0 _ s.pre.1.1 _ (sequence_x _ _ _ s.pre.1.0 _ s.pre.1.1 _ w.before.before.before.before.before.node_at_lem.ensures _ w.before.before.before.before.decode.ensures _ w.before.before.node.given.1 _ w.wide.ensures))
+    (λ w κs. let s = w.before.before.before.before.before.before.before.before.before in set_there _ _ _ s.pre.1.0 _ s.pre.1.1 _ (sequence_x _ _ _ s.pre.1.0 _ s.pre.1.1 _ w.before.before.before.before.before.node_at.ensures _ w.before.before.before.before.decode.ensures _ w.before.before.node.given.1 _ w.wide.ensures))
     -- sequence-clock-requires
     (λ c κs. search rules)
     -- sequence-row-requires
     (λ c κs.
     let w = c.before.before in
     let s = w.before.before.before.before.before.before.before.before.before in
-    let l = sequence_x _ _ _ s.requires.1.0 _ s.requires.1.1 _ w.before.before.before.before.before.node_at_lem.ensures _ w.before.before.before.before.decode.ensures _ w.before.before.node.given.1 _ w.wide.ensures in
+    let l = sequence_x _ _ _ s.requires.1.0 _ s.requires.1.1 _ w.before.before.before.before.before.node_at.ensures _ w.before.before.before.before.decode.ensures _ w.before.before.node.given.1 _ w.wide.ensures in
     fallen _ _ _ _ s.requires.0 s.requires.1 l)
     -- wide-requires-2
     (λ c κs. search rules)
@@ -60,7 +60,7 @@ pub +sequence-row-spec : {M : Type 1} → statement M
     (λ c κs.
     let w = c.before.before.before.before in
     let s = w.before.before.before.before.before.before.before.before.before in
-    let l = sequence_y _ _ _ s.requires.1.0 _ s.requires.1.1 _ w.before.before.before.before.before.node_at_lem.ensures _ w.before.before.before.before.decode.ensures _ w.before.before.node.given.1 _ c.wide2.ensures in
+    let l = sequence_y _ _ _ s.requires.1.0 _ s.requires.1.1 _ w.before.before.before.before.before.node_at.ensures _ w.before.before.before.before.decode.ensures _ w.before.before.node.given.1 _ c.wide2.ensures in
     fallen _ _ _ _ s.requires.0 s.requires.1 l)
     -- sequence-step-requires
     (λ c κs. (search rules, search rules, c.before.before.before.before.before.before.before.before.before.before.before.before.before.before.before.before.requires.1.0.shaped.short))
@@ -72,7 +72,7 @@ pub +sequence-row-spec : {M : Type 1} → statement M
     (λ c.
     let w = c.before.before.before.before.before.before.before.before in
     let s = w.before.before.before.before.before.before.before.before.before in
-    of_sequence _ _ _ s.requires.1.0 _ s.requires.1.1 _ w.before.before.before.before.before.node_at_lem.ensures _ w.before.before.before.before.decode.ensures _ _ w.before.before.node.given.1 _ _ w.wide.ensures c.before.before.before.before.wide2.ensures _ c.before.before.before.before.before.before.before.set_at.ensures _
+    of_sequence _ _ _ s.requires.1.0 _ s.requires.1.1 _ w.before.before.before.before.before.node_at.ensures _ w.before.before.before.before.decode.ensures _ _ w.before.before.node.given.1 _ _ w.wide.ensures c.before.before.before.before.wide2.ensures _ c.before.before.before.before.before.before.before.set_at.ensures _
     c.before.before.before.before.before.before.sequence-clock.ensures _ _ _ c.before.before.before.before.before.sequence_row.ensures c.before.before.before.sequence-row2.ensures c.sequence-step.ensures)
     -- returns-3
     (λ c. search of_property))

@@ -28,7 +28,7 @@ use Rattle.writing.proofs.put_block.Statement.{statement}
 use Rattle.writing.proofs.put_block.Tie as tie
 
 -- the length of the block, the block itself, the room for it, and the nodes of it that are put
-abbrev invariant-loop : tie.invariant-loop
+abbrev invariant-loop : tie.invariant-loop-i
 invariant-loop b clocks numbers out₀ k at v x y clock c first long i₀ out i =
     (i ≤ long)
     × (long ≡ length_of b (clock_by clocks) k)
@@ -38,7 +38,7 @@ invariant-loop b clocks numbers out₀ k at v x y clock c first long i₀ out i 
     × (length out ≡ length out₀)
     × (out ≡ put out₀ (4 * at + 6) (encoded (take i (block_of b (clock_by clocks) k))))
 
-abbrev decreases-loop : tie.decreases-loop
+abbrev decreases-loop : tie.decreases-loop-i
 decreases-loop b clocks numbers out₀ k at v x y clock c first long i₀ out i = long - i
 
 -- what the code has of the node
@@ -78,29 +78,29 @@ module _ (us : List Raw) (long : ℕ) (el : long ≡ length us) (i : ℕ) where
     whole m = e ∙ ap (λ (us : List Raw). put d (4 * at + 6) (encoded us)) (take_all i us (omega arith))
 
 -- what is known when node i is put
-module _ (p : tie.After-put-node invariant-loop decreases-loop) where
-  abbrev made-node : tie.After-block-node invariant-loop decreases-loop
+module _ (p : tie.After-put_node invariant-loop decreases-loop) where
+  abbrev made-node : tie.After-block_node invariant-loop decreases-loop
   made-node = p.before
 
-  abbrev turn : tie.At-loop invariant-loop decreases-loop
+  abbrev turn : tie.At-loop-i invariant-loop decreases-loop
   turn = made-node.before.before.before
 
-loop-again : tie.Need-loop-preserved invariant-loop decreases-loop
+loop-again : tie.Need-loop-i-preserved invariant-loop decreases-loop
 loop-again c =
     let p = c.before.before in
-    let l = (turn p).loop.invariant in (
+    let l = (turn p).loop-i.invariant in (
       omega arith,
       l.1,
       l.2,
       l.3,
       l.4,
-      p.put-node.auto.0 ∙ l.5,
-      step _ _ l.2 _ _ _ _ l.6 _ l.3 (omega arith) l.4 _ (made-node p).block-node.ensures _ p.put-node.ensures,
+      p.put_node.auto.0 ∙ l.5,
+      step _ _ l.2 _ _ _ _ l.6 _ l.3 (omega arith) l.4 _ (made-node p).block_node.ensures _ p.put_node.ensures,
     )
 
-pub put-block-spec : {M : Type 1} → statement M
+pub put_block_spec : {M : Type 1} → statement M
 unfolding encoded
-put-block-spec =
+put_block_spec =
     tie.close
     (tie.spec
     invariant-loop

@@ -4,8 +4,8 @@ use native.Mathlib.Omega.{arith}
 use Rattle.writing.proofs.put_headed.Statement.{statement}
 use Rattle.writing.proofs.put_headed.Tie as tie
 
-pub put-headed-spec : {M : Type 1} → statement M
-put-headed-spec =
+pub put_headed_spec : {M : Type 1} → statement M
+put_headed_spec =
     tie.close
     (tie.spec
     (λ c. omega arith)

@@ -59,8 +59,8 @@ module _ (s : List ℕ) (clock : ℕ → Ref) (pass : Bool) (k at sort : ℕ) (e
       room : (d : List ℕ) → 4 * new_count s clock + 6 ≤ length d → 4 * (at + length_of s clock k) + 6 ≤ length d
       room d m = let f = start_fits s clock k l in let e = starts in omega arith
 
-pub put-in-pass-spec : {M : Type 1} → statement M
-put-in-pass-spec =
+pub put_in_pass_spec : {M : Type 1} → statement M
+put_in_pass_spec =
     tie.close
     (tie.spec
     (λ c κs. search rules)

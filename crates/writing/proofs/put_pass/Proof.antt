@@ -22,14 +22,14 @@ use Rattle.writing.proofs.Passes.{pass_fits}
 use Rattle.writing.proofs.put_pass.Statement.{statement}
 use Rattle.writing.proofs.put_pass.Tie as tie
 
-abbrev invariant-loop : tie.invariant-loop
+abbrev invariant-loop : tie.invariant-loop-k
 invariant-loop b n clocks numbers pass out₀ from at₀ k₀ out at k =
     (k ≤ n)
     × (at ≡ from + taken b (clock_by clocks) (of_pass b pass) k)
     × (length out ≡ length out₀)
     × (out ≡ put out₀ (4 * from + 6) (encoded (laid b (clock_by clocks) (of_pass b pass) k)))
 
-abbrev decreases-loop : tie.decreases-loop
+abbrev decreases-loop : tie.decreases-loop-k
 decreases-loop b n clocks numbers pass out₀ from at₀ k₀ out at k = n - k
 
 module _ (s clocks : List ℕ) (pass : Bool) (from k at : ℕ) (ea : at ≡ from + taken s (clock_by clocks) (of_pass s pass) k) where
@@ -62,9 +62,9 @@ whole s clocks pass d out from k n l m e =
     let z : k ≡ n = omega arith in
     e ∙ ap (λ (j : ℕ). put d (4 * from + 6) (encoded (laid s (clock_by clocks) (of_pass s pass) j))) z
 
-pub put-pass-spec : {M : Type 1} → statement M
+pub put_pass_spec : {M : Type 1} → statement M
 unfolding encoded laid sum
-put-pass-spec =
+put_pass_spec =
     tie.close
     (tie.spec
     invariant-loop

@@ -66,8 +66,8 @@ module _ (s clocks : List ℕ) (counts : Counts) (counted : CountsOf s clocks co
         e₃ ∙ ap (λ (u : List ℕ). put u (4 * b + 6) y) f₂ ∙ f₃
         ∙ ap (put d 0) (append_assoc (headed s m) x y ∙ ap (λ (u : List ℕ). headed s m ++ u) both ∙ ap (λ (i : ℕ). headed s i ++ encoded (new_nodes s (clock_by clocks))) em)
 
-pub put-table-spec : {M : Type 1} → statement M
-put-table-spec =
+pub put_table_spec : {M : Type 1} → statement M
+put_table_spec =
     tie.close
     (tie.spec
     (λ c κs. search rules)

@@ -12,10 +12,10 @@ use Rattle.refusal.proofs.Firsts.{on, found, missed}
 use Rattle.faults.proofs.formed.first_unfit.Statement.{statement}
 use Rattle.faults.proofs.formed.first_unfit.Tie as tie
 
-abbrev invariant-loop : tie.invariant-loop
+abbrev invariant-loop : tie.invariant-loop-k
 invariant-loop b n v k₀ k = (k ≤ n) × (first (unfit b) 0 n ≡ first (unfit b) k n)
 
-abbrev decreases-loop : tie.decreases-loop
+abbrev decreases-loop : tie.decreases-loop-k
 decreases-loop b n v k₀ k = n - k
 
 module _ (s : List ℕ) (n k : ℕ) (i : first (unfit s) 0 n ≡ first (unfit s) k n) (h : k < n) (v : ℕ) (ev : v ≡ version s) (m : Bool) (e : m ≡ node_fits s v k) where
@@ -28,8 +28,8 @@ module _ (s : List ℕ) (n k : ℕ) (i : first (unfit s) 0 n ≡ first (unfit s)
   unfits : m ≡ false → k ≡ first (unfit s) 0 n
   unfits f = found (unfit s) k n i h (not m) tested (ap not f)
 
-pub first-unfit-spec : {M : Type 1} → statement M
-first-unfit-spec =
+pub first_unfit_spec : {M : Type 1} → statement M
+first_unfit_spec =
     tie.close
     (tie.spec
     invariant-loop

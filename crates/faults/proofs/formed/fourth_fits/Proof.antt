@@ -4,9 +4,9 @@ use Rattle.faults.specs.Computed.{fourth_fits}
 use Rattle.faults.proofs.formed.fourth_fits.Statement.{statement}
 use Rattle.faults.proofs.formed.fourth_fits.Tie as tie
 
-pub fourth-fits-spec : {M : Type 1} → statement M
+pub fourth_fits_spec : {M : Type 1} → statement M
 unfolding fourth_fits
-fourth-fits-spec =
+fourth_fits_spec =
     tie.close
     (tie.spec
     (λ c. search rules))

@@ -51,8 +51,8 @@ module _ (s : List ℕ) (v k : ℕ) (n : Raw) (en : n ≡ raw_at s k) (r : Row) 
             unfolding fits_as
             second g y e = simp (known, ne_eqb _ _ h, ← et, not-false t f, ← eq, not-false q z, ← ex, g, e)
 
-pub node-fits-spec : {M : Type 1} → statement M
-node-fits-spec =
+pub node_fits_spec : {M : Type 1} → statement M
+node_fits_spec =
     tie.close
     (tie.spec
     (λ c κs. search rules)

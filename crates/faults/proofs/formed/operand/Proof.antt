@@ -5,12 +5,12 @@ use borrow.Author.Rules.{rules}
 use Rattle.faults.proofs.formed.operand.Statement.{statement}
 use Rattle.faults.proofs.formed.operand.Tie as tie
 
-pub operand-spec : {M : Type 1} → statement M
+pub operand_spec : {M : Type 1} → statement M
 unfolding operand_fits
-operand-spec = tie.close
+operand_spec = tie.close
     (tie.spec
-    (λ c. simp (eq-eqb _ _ c.if1.true))
+    (λ c. simp (eq-eqb _ _ c.if-sort-eq-NONE.true))
     (λ c κs. search rules)
     (λ c κs. search rules)
-    (λ c. simp (ne_eqb _ _ c.before.before.before.if1.false, ← c.before.before.wide.ensures, lt-ltb _ _ c.before.if2.true, c.sort-at.ensures))
-    (λ c. simp (ne_eqb _ _ c.before.before.if1.false, ← c.before.wide.ensures, le-ltb _ _ c.if2.false)))
+    (λ c. simp (ne_eqb _ _ c.before.before.before.if-sort-eq-NONE.false, ← c.before.before.wide-i.ensures, lt-ltb _ _ c.before.if-i-k.true, c.sort_at.ensures))
+    (λ c. simp (ne_eqb _ _ c.before.before.if-sort-eq-NONE.false, ← c.before.wide-i.ensures, le-ltb _ _ c.if-i-k.false)))

@@ -15,10 +15,10 @@ use Rattle.faults.proofs.placed.first_astray.Tie as tie
 abbrev Sought : (ℕ → Bool) → ℕ → ℕ → ℕ → Type 0
 Sought p n lowest k = ((lowest ≡ n) × (first p 0 n ≡ first p k n)) ⊎ ((lowest < k) × (lowest ≡ first p 0 n))
 
-abbrev invariant-loop : tie.invariant-loop
+abbrev invariant-loop : tie.invariant-loop-k
 invariant-loop b n uses lowest₀ k₀ lowest k = (lowest ≤ n) × (k ≤ n) × Sought (astray b n) n lowest k
 
-abbrev decreases-loop : tie.decreases-loop
+abbrev decreases-loop : tie.decreases-loop-k
 decreases-loop b n uses lowest₀ k₀ lowest k = n - k
 
 module _ (p : ℕ → Bool) (n lowest k : ℕ) (z : Sought p n lowest k) where
@@ -35,17 +35,17 @@ module _ (p : ℕ → Bool) (n lowest k : ℕ) (z : Sought p n lowest k) where
   ends : k ≤ n → lowest ≤ k → lowest ≡ first p 0 n
   ends g h = ⊎_elim (λ q. let a = q.0 in a ∙ missed p k n q.1 g (omega arith)) (λ q. q.1) z
 
-loop-again : tie.Need-loop-preserved invariant-loop decreases-loop
+loop-again : tie.Need-loop-k-preserved invariant-loop decreases-loop
 loop-again c =
-    let l = c.before.before.before.loop in
+    let l = c.before.before.before.loop-k in
     let h : l.k < l.lowest = omega arith in
-    let e = c.before.is-astray.ensures in
+    let e = c.before.is_astray.ensures in
     ⊎_elim (λ w. stops _ _ _ _ l.invariant.2 h l.invariant.0 _ e _ w.0.taken w.1) (λ w. goes_on_lem _ _ _ _ l.invariant.2 h l.invariant.0 _ e _ w.0.left w.1)
-    c.if1.branch
+    c.if-is_astray.branch
 
-pub first-astray-spec : {M : Type 1} → statement M
+pub first_astray_spec : {M : Type 1} → statement M
 unfolding Counted
-first-astray-spec =
+first_astray_spec =
     tie.close
     (tie.spec
     invariant-loop
@@ -53,7 +53,7 @@ first-astray-spec =
     (λ c κs. omega arith)
     (λ c. (omega arith, omega arith, inl (refl, refl)))
     (λ c. omega arith)
-    (λ c κs. (omega arith, omega arith, c.before.before.uses-in.ensures c.before.loop.k (omega arith)))
+    (λ c κs. (omega arith, omega arith, c.before.before.uses_in-uses.ensures c.before.loop-k.k (omega arith)))
     (λ c. omega arith)
     (λ c. omega arith)
     loop-again

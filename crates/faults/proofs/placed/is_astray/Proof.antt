@@ -26,8 +26,8 @@ module _ (s : List ℕ) (n k sort : ℕ) (es : sort ≡ sort_at s k) where
     unfolding astray
     inner z p e = rw (← es, le-ltb _ _ h, ne_eqb _ _ z, e)
 
-pub is-astray-spec : {M : Type 1} → statement M
-is-astray-spec =
+pub is_astray_spec : {M : Type 1} → statement M
+is_astray_spec =
     tie.close
     (tie.spec
     (λ c κs. search rules)

@@ -19,8 +19,8 @@ module _ (sort v : ℕ) where
   unfolding slot_of
   operand h i e = rw (ne_eqb _ _ h, e)
 
-pub slot-spec : {M : Type 1} → statement M
-slot-spec =
+pub slot_spec : {M : Type 1} → statement M
+slot_spec =
     tie.close
     (tie.spec
     (λ c κs. search rules)

@@ -9,14 +9,14 @@ use Rattle.faults.proofs.Counting.{counted_more, bounded_more, bump_le, nothing_
 use Rattle.faults.proofs.placed.uses_in.Statement.{statement}
 use Rattle.faults.proofs.placed.uses_in.Tie as tie
 
-abbrev invariant-loop : tie.invariant-loop
+abbrev invariant-loop : tie.invariant-loop-j
 invariant-loop b n uses₀ j₀ uses j = (j ≤ n) × (length uses ≡ 121) × Counted b j uses × ((k : ℕ) → get_or uses k 0 ≤ 2 * j)
 
-abbrev decreases-loop : tie.decreases-loop
+abbrev decreases-loop : tie.decreases-loop-j
 decreases-loop b n uses₀ j₀ uses j = n - j
 
-pub uses-in-spec : {M : Type 1} → statement M
-uses-in-spec =
+pub uses_in_spec : {M : Type 1} → statement M
+uses_in_spec =
     tie.close
     (tie.spec
     invariant-loop
@@ -27,13 +27,13 @@ uses-in-spec =
     (λ c κs. omega arith)
     (λ c κs. omega arith)
     (λ c. omega arith)
-    (λ c. omega (arith, c.before.before.before.before.before.loop.invariant.3 c.before.slot.result))
+    (λ c. omega (arith, c.before.before.before.before.before.loop-j.invariant.3 c.before.slot-x.result))
     (λ c. omega arith)
     (λ c. omega arith)
     (λ c.
-    let l = c.before.before.before.before.before.loop in
-    let x = c.before.slot.result in
-    let y = c.slot2.result in
+    let l = c.before.before.before.before.before.loop-j in
+    let x = c.before.slot-x.result in
+    let y = c.slot-y.result in
     let h : x < length l.uses = omega arith in
     omega (arith, l.invariant.3 y, bump_le l.uses x y h))
     (λ c. omega arith)
@@ -41,5 +41,5 @@ uses-in-spec =
     (λ c. omega arith)
     (λ c. (omega arith, simp length-set (omega arith), search counted_more, search bounded_more))
     (λ c.
-    let e : c.before.loop.j ≡ c.before.before.before.args.n = omega arith in
-    subst (λ (j : ℕ). Counted c.before.before.before.args.b.now j c.before.loop.uses) e c.before.loop.invariant.2))
+    let e : c.before.loop-j.j ≡ c.before.before.before.args.n = omega arith in
+    subst (λ (j : ℕ). Counted c.before.before.before.args.b.now j c.before.loop-j.uses) e c.before.loop-j.invariant.2))

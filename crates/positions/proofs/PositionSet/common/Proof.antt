@@ -6,5 +6,5 @@ use Rattle.positions.proofs.PositionSet.common.Tie as tie
 returns : tie.Need-returns
 returns c k = has_and c.before.before.args.self.bits c.before.before.args.other.bits k
 
-pub common-spec : {M : Type 1} → statement M
-common-spec = tie.close (tie.spec returns)
+pub common_spec : {M : Type 1} → statement M
+common_spec = tie.close (tie.spec returns)

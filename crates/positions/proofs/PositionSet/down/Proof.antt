@@ -7,5 +7,5 @@ use Rattle.positions.proofs.PositionSet.down.Tie as tie
 returns : tie.Need-returns
 returns c k = sym (has_suc c.before.args.self.bits k)
 
-pub down-spec : {M : Type 1} → statement M
-down-spec = tie.close (tie.spec returns)
+pub down_spec : {M : Type 1} → statement M
+down_spec = tie.close (tie.spec returns)

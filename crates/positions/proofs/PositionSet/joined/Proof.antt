@@ -6,5 +6,5 @@ use Rattle.positions.proofs.PositionSet.joined.Tie as tie
 returns : tie.Need-returns
 returns c k = has_or c.before.before.args.self.bits c.before.before.args.other.bits k
 
-pub joined-spec : {M : Type 1} → statement M
-joined-spec = tie.close (tie.spec returns)
+pub joined_spec : {M : Type 1} → statement M
+joined_spec = tie.close (tie.spec returns)

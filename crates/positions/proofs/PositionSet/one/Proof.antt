@@ -5,7 +5,7 @@ use Rattle.positions.proofs.Laws.{has_shl_one}
 use Rattle.positions.proofs.PositionSet.one.Statement.{statement}
 use Rattle.positions.proofs.PositionSet.one.Tie as tie
 
-shl-t3 : tie.Need-overflow-shl-t3
+shl-t3 : tie.Need-overflow_shl-result
 shl-t3 c = search rules
 
 returns : tie.Need-returns

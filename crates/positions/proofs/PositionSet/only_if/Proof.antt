@@ -8,11 +8,11 @@ use Rattle.positions.proofs.PositionSet.only_if.Tie as tie
 empty-requires : tie.Need-empty-requires
 empty-requires c κs = search rules
 
-returns : tie.Need-returns
-returns c k = rw c.if1.true (sym (and-true _))
+returns : tie.Need-returns-then-yes
+returns c k = rw c.if-yes.true (sym (and-true _))
 
-returns-2 : tie.Need-returns-2
-returns-2 c k = rw (c.before.if1.false, c.empty.ensures k, and-false)
+returns-2 : tie.Need-returns-else-yes
+returns-2 c k = rw (c.before.if-yes.false, c.empty.ensures k, and-false)
 
-pub only-if-spec : {M : Type 1} → statement M
-only-if-spec = tie.close (tie.spec empty-requires returns returns-2)
+pub only_if_spec : {M : Type 1} → statement M
+only_if_spec = tie.close (tie.spec empty-requires returns returns-2)

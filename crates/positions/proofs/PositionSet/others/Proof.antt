@@ -15,5 +15,5 @@ without-requires c κs = search rules
 returns : tie.Need-returns
 returns c k = c.without.ensures k ∙ ap (λ b. b && not (has c.before.before.args.self.bits k)) (c.before.full.ensures k)
 
-pub others-spec : {M : Type 1} → statement M
-others-spec = tie.close (tie.spec full-requires without-requires returns)
+pub others_spec : {M : Type 1} → statement M
+others_spec = tie.close (tie.spec full-requires without-requires returns)

@@ -8,7 +8,7 @@ use Rattle.positions.proofs.Lowest.{has-drop, lowest_lt}
 use Rattle.positions.proofs.PositionSet.rest.Statement.{statement}
 use Rattle.positions.proofs.PositionSet.rest.Tie as tie
 
-sub-t2 : tie.Need-overflow-sub-t2
+sub-t2 : tie.Need-overflow_sub-result
 sub-t2 c = search rules
 
 returns : tie.Need-returns
@@ -16,5 +16,5 @@ returns c =
     let x = c.before.before.args.self.bits in
     (λ l h k. has-drop l x k h.below (h.there (lowest_lt 64 x l (search rules) c.before.before.requires h)), lt_of_le_of_lt (and_le_r x (x - 1)) (omega arith))
 
-pub rest-spec : {M : Type 1} → statement M
-rest-spec = tie.close (tie.spec sub-t2 returns)
+pub rest_spec : {M : Type 1} → statement M
+rest_spec = tie.close (tie.spec sub-t2 returns)

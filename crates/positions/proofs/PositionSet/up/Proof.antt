@@ -12,5 +12,5 @@ returns c k =
     let x = c.before.args.self.bits in
     has_mod 64 (x * 2 ^ 1) k ∙ ap (λ b. b && ltb k 64) (has_up x 1 k)
 
-pub up-spec : {M : Type 1} → statement M
-up-spec = tie.close (tie.spec returns)
+pub up_spec : {M : Type 1} → statement M
+up_spec = tie.close (tie.spec returns)

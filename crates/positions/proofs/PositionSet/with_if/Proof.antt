@@ -8,11 +8,11 @@ use Rattle.positions.proofs.PositionSet.with_if.Tie as tie
 with-requires : tie.Need-with-requires
 with-requires c κs = search rules
 
-returns : tie.Need-returns
-returns c k = rw c.before.if1.true (c.with.ensures k)
+returns : tie.Need-returns-then-yes
+returns c k = rw c.before.if-yes.true (c.with.ensures k)
 
-returns-2 : tie.Need-returns-2
-returns-2 c k = rw c.if1.false (sym (or-false _))
+returns-2 : tie.Need-returns-else-yes
+returns-2 c k = rw c.if-yes.false (sym (or-false _))
 
-pub with-if-spec : {M : Type 1} → statement M
-with-if-spec = tie.close (tie.spec with-requires returns returns-2)
+pub with_if_spec : {M : Type 1} → statement M
+with_if_spec = tie.close (tie.spec with-requires returns returns-2)

@@ -9,11 +9,11 @@ use Rattle.positions.proofs.PositionSet.within.Tie as tie
 without-requires : tie.Need-without-requires
 without-requires c κs = search rules
 
-is-empty-requires : tie.Need-is-empty-requires
+is-empty-requires : tie.Need-is_empty-requires
 is-empty-requires c κs = search rules
 
 returns : tie.Need-returns
-returns c = c.is-empty.ensures ∙ ap not (some_same 0 64 (λ k u v. c.before.without.ensures k))
+returns c = c.is_empty.ensures ∙ ap not (some_same 0 64 (λ k u v. c.before.without.ensures k))
 
-pub within-spec : {M : Type 1} → statement M
-within-spec = tie.close (tie.spec without-requires is-empty-requires returns)
+pub within_spec : {M : Type 1} → statement M
+within_spec = tie.close (tie.spec without-requires is-empty-requires returns)

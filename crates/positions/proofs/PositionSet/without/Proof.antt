@@ -9,5 +9,5 @@ returns c k =
     let a = c.before.before.args in
     has_and_not 64 a.self.bits a.other.bits k (search rules) (search rules)
 
-pub without-spec : {M : Type 1} → statement M
-without-spec = tie.close (tie.spec returns)
+pub without_spec : {M : Type 1} → statement M
+without_spec = tie.close (tie.spec returns)

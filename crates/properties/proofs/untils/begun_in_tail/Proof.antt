@@ -4,7 +4,7 @@ use Rattle.properties.proofs.untils.begun_in_tail.Statement.{statement}
 use Rattle.properties.proofs.untils.begun_in_tail.Tie as tie
 
 returns : tie.Need-returns
-returns c = rw (← c.before.before.has.ensures, ← c.before.has2.ensures) c.begun.ensures
+returns c = rw (← c.before.before.has.ensures, ← c.before.has-2.ensures) c.begun.ensures
 
-pub begun-in-tail-spec : {M : Type 1} → statement M
-begun-in-tail-spec = tie.close (tie.spec (λ c κs. search rules) (λ c κs. search rules) (λ c κs. search rules) returns)
+pub begun_in_tail_spec : {M : Type 1} → statement M
+begun_in_tail_spec = tie.close (tie.spec (λ c κs. search rules) (λ c κs. search rules) (λ c κs. search rules) returns)

@@ -8,23 +8,23 @@ use Rattle.steps.proofs.Copies.{Copied, copied_more, copied_all}
 use Rattle.steps.proofs.beside.beside.Statement.{statement}
 use Rattle.steps.proofs.beside.beside.Tie as tie
 
-abbrev invariant-loop : tie.invariant-loop
+abbrev invariant-loop : tie.invariant-loop-i
 invariant-loop x y out₀ i₀ out i = (i ≤ share) × Copied x y i out
 
-abbrev decreases-loop : tie.decreases-loop
+abbrev decreases-loop : tie.decreases-loop-i
 decreases-loop x y out₀ i₀ out i = share - i
 
-loop-holds : tie.Need-loop-init invariant-loop decreases-loop
+loop-holds : tie.Need-loop-i-init invariant-loop decreases-loop
 loop-holds c = (search rules, record { long = refl; first = λ m l. absurd (omega arith); second = λ m l. absurd (omega arith) })
 
-loop-again : tie.Need-loop-preserved invariant-loop decreases-loop
-loop-again c = (search rules, copied_more _ _ _ _ (search rules) c.before.before.before.loop.invariant.1)
+loop-again : tie.Need-loop-i-preserved invariant-loop decreases-loop
+loop-again c = (search rules, copied_more _ _ _ _ (search rules) c.before.before.before.loop-i.invariant.1)
 
 returns : tie.Need-returns invariant-loop decreases-loop
-returns c = (copied_all _ _ _ _ (search rules) c.before.loop.invariant.1, c.before.loop.invariant.1.long)
+returns c = (copied_all _ _ _ _ (search rules) c.before.loop-i.invariant.1, c.before.loop-i.invariant.1.long)
 
-pub beside-spec : {M : Type 1} → statement M
-beside-spec =
+pub beside_spec : {M : Type 1} → statement M
+beside_spec =
     tie.close
     (tie.spec
     invariant-loop

@@ -7,6 +7,6 @@ use Rattle.steps.proofs.beside.pair_row.Tie as tie
 returns : tie.Need-returns
 returns c = search pair_made
 
-pub pair-row-spec : {M : Type 1} → statement M
-pair-row-spec =
+pub pair_row_spec : {M : Type 1} → statement M
+pair_row_spec =
     tie.close (tie.spec (λ c κs. search rules) (λ c. search rules) (λ c κs. search rules) (λ c. search rules) (λ c κs. search rules) returns)

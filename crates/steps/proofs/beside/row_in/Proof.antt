@@ -8,23 +8,23 @@ use Rattle.steps.proofs.Copies.{Lifted, lifted_more, lifted_all}
 use Rattle.steps.proofs.beside.row_in.Statement.{statement}
 use Rattle.steps.proofs.beside.row_in.Tie as tie
 
-abbrev invariant-loop : tie.invariant-loop
+abbrev invariant-loop : tie.invariant-loop-i
 invariant-loop rows at out₀ i₀ out i = (i ≤ share) × Lifted rows at i out
 
-abbrev decreases-loop : tie.decreases-loop
+abbrev decreases-loop : tie.decreases-loop-i
 decreases-loop rows at out₀ i₀ out i = share - i
 
-loop-holds : tie.Need-loop-init invariant-loop decreases-loop
+loop-holds : tie.Need-loop-i-init invariant-loop decreases-loop
 loop-holds c = (search rules, record { long = refl; word = λ m l. absurd (omega arith) })
 
-loop-again : tie.Need-loop-preserved invariant-loop decreases-loop
-loop-again c = (search rules, lifted_more _ _ _ _ _ (search rules) refl c.before.before.loop.invariant.1)
+loop-again : tie.Need-loop-i-preserved invariant-loop decreases-loop
+loop-again c = (search rules, lifted_more _ _ _ _ _ (search rules) refl c.before.before.loop-i.invariant.1)
 
 returns : tie.Need-returns invariant-loop decreases-loop
-returns c = lifted_all _ _ _ _ (search rules) c.before.loop.invariant.1
+returns c = lifted_all _ _ _ _ (search rules) c.before.loop-i.invariant.1
 
-pub row-in-spec : {M : Type 1} → statement M
-row-in-spec =
+pub row_in_spec : {M : Type 1} → statement M
+row_in_spec =
     tie.close
     (tie.spec
     invariant-loop
