@@ -25,6 +25,7 @@ fn node(op: u8, x: u8, y: u8) -> Raw
 }
 
 // Node i of letter b under c.
+#[tactic(auto, unfolding(nodes::specs::Operators::bytes_of, nodes::specs::Operators::boolean_bytes, nodes::specs::Operators::sequence_bytes, nodes::specs::Operators::property_bytes))]
 fn letter_node(at: u8, c: u8, b: u8, i: usize) -> Raw
     requires { (at ≤ 120) × (i < 9) }
     ensures { result ≡ bytes_of (get_or (letter_block at c b) i blank_node) }
@@ -43,6 +44,7 @@ fn letter_node(at: u8, c: u8, b: u8, i: usize) -> Raw
 }
 
 // Node i of nexttime p under c.
+#[tactic(auto, unfolding(nodes::specs::Operators::bytes_of, nodes::specs::Operators::boolean_bytes, nodes::specs::Operators::sequence_bytes, nodes::specs::Operators::property_bytes))]
 fn next_node(at: u8, c: u8, p: u8, i: usize) -> Raw
     requires { (at ≤ 120) × (i < 14) }
     ensures { result ≡ bytes_of (get_or (next_block at c p) i blank_node) }
@@ -66,6 +68,7 @@ fn next_node(at: u8, c: u8, p: u8, i: usize) -> Raw
 }
 
 // Node i of p until q under c.
+#[tactic(auto, unfolding(nodes::specs::Operators::bytes_of, nodes::specs::Operators::boolean_bytes, nodes::specs::Operators::sequence_bytes, nodes::specs::Operators::property_bytes))]
 fn until_node(at: u8, c: u8, p: u8, q: u8, i: usize) -> Raw
     requires { (at ≤ 120) × (i < 9) }
     ensures { result ≡ bytes_of (get_or (until_block at c p q) i blank_node) }

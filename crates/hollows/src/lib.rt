@@ -132,6 +132,7 @@ fn sequence_tops(q: SequenceOp, x: Tops, y: Tops) -> Tops
 }
 
 // Booleans and properties match nothing.
+#[tactic(auto, unfolding(crate::specs::Flags::node_tops))]
 fn node_tops(v: Node, x: Tops, y: Tops) -> Tops
     ensures { result ≡ node_tops v x y }
 {
@@ -143,6 +144,7 @@ fn node_tops(v: Node, x: Tops, y: Tops) -> Tops
 }
 
 // Whether what the derived node is expanded to asks for a match of x, or of x and one letter more, which matches no letters ⊤.
+#[tactic(auto, unfolding(crate::specs::Flags::hollow_derived))]
 fn hollow_derived(p: DerivedProperty, x: Tops) -> bool
     ensures { result ≡ hollow_derived p x }
 {
@@ -158,6 +160,7 @@ fn hollow_derived(p: DerivedProperty, x: Tops) -> bool
 }
 
 // Whether the node asks for a match of its operand x, which matches no letters ⊤.
+#[tactic(auto, unfolding(crate::specs::Flags::hollow_property))]
 fn hollow_property(p: PropertyOp, x: Tops) -> bool
     ensures { result ≡ hollow_property p x }
 {
@@ -176,6 +179,7 @@ fn hollow_property(p: PropertyOp, x: Tops) -> bool
 }
 
 // Booleans and sequences ask for nothing.
+#[tactic(auto, unfolding(crate::specs::Flags::hollow_node))]
 fn is_hollow(v: Node, x: Tops) -> bool
     ensures { result ≡ hollow_node v x }
 {

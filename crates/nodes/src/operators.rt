@@ -295,6 +295,7 @@ const DERIVED_TWO: Row = Row {
 };
 
 // The row of an operator.
+#[tactic(auto, unfolding(crate::specs::Operators::operators, crate::specs::Operators::lookup, crate::specs::Operators::row_of))]
 pub fn row_of(op: u8) -> Row
     ensures { result ≡ row_of op }
 {

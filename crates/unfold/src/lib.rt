@@ -29,6 +29,7 @@ fn placed(p: Piece, next: usize) -> u8
 }
 
 // Whether the piece is a plain byte, which is not written on its own.
+#[tactic(auto, unfolding(crate::specs::Puts::is_byte))]
 fn is_byte(p: Piece) -> bool
     ensures { result ≡ is_byte p }
 {

@@ -1,5 +1,6 @@
 -- `matches::ends_along` meets its contract: what is left is covered where the walk stops, and it falls as a number. Assumes nothing.
-use mathlib.Core.Path.{◌≡◌, refl}
+use mathlib.Core.Path.{◌≡◌, refl, ap}
+use mathlib.Core.Bool.{not}
 use Prim.Native.Nat.{◌≤◌}
 use native.Mathlib.Omega.{arith}
 use lib.ListN.{get_or}
@@ -29,7 +30,7 @@ module _ (d : tie.After-lowest-m invariant-loop decreases-loop) where
   asked = d.before.before
 
   not_none : (turn asked).loop-left.left.bits ≡ 0 → ⊥
-  not_none = some_left _ _ _ asked.within.ensures d.before.loop-left-test.taken
+  not_none = some_left _ _ _ asked.within.ensures (ap not d.before.loop-left-test.true)
 
   inside : d.lowest-m.result ≤ (start asked).args.n
   inside = (going_at _ _ _ _ _ _ (omega arith) not_none d.lowest-m.ensures (turn asked).loop-left.invariant).0
@@ -43,7 +44,7 @@ loop-again c =
 returns : tie.Need-returns invariant-loop decreases-loop
 returns c =
     let d = c.before in
-    going_end _ _ _ _ _ _ (turn d).before.cut-left.ensures (turn d).loop-left.invariant _ _ _ (omega arith) (start d).requires.1 d.before.only_if.ensures d.within.ensures c.loop-left-test.false
+    going_end _ _ _ _ _ _ (turn d).before.cut-left.ensures (turn d).loop-left.invariant _ _ _ (omega arith) (start d).requires.1 d.before.only_if.ensures d.within.ensures (ap not c.loop-left-test.false)
 
 pub ends_along_spec : {M : Type 1} → statement M
 ends_along_spec =

@@ -25,7 +25,7 @@ module _ (d : tie.After-lowest-m invariant-loop decreases-loop) where
   start = turn.before.before.before.before
 
   inside : d.lowest-m.result ≤ start.args.n
-  inside = (going_at _ _ _ _ _ _ (omega arith) d.before.loop-left-test.taken d.lowest-m.ensures turn.loop-left.invariant).0
+  inside = (going_at _ _ _ _ _ _ (omega arith) d.before.loop-left-test.true d.lowest-m.ensures turn.loop-left.invariant).0
 
 loop-again : tie.Need-loop-left-preserved invariant-loop decreases-loop
 loop-again c =

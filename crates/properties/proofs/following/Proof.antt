@@ -17,13 +17,13 @@ decreases-loop rows n a p neutral₀ weak₀ strong₀ i₀ neutral weak strong 
 -- where each of the three sets was made
 module _ (c : tie.After-with_if-strong invariant-loop decreases-loop) where
   abbrev second : tie.After-with_if-weak invariant-loop decreases-loop
-  second = c.before.before
+  second = c.before.before.before
 
   abbrev first : tie.After-with_if-neutral invariant-loop decreases-loop
-  first = second.before.before
+  first = second.before.before.before
 
   abbrev letters : tie.After-last_letters-last invariant-loop decreases-loop
-  letters = first.before.before
+  letters = first.before.before.before
 
   abbrev turn : tie.At-loop-i invariant-loop decreases-loop
   turn = letters.before.before

@@ -14,7 +14,7 @@ returns c =
     record {
       neutral = f.neutral;
       weak = f.weak;
-      strong = follows_but a.rows.now _ a.a _ _ _ _ _ _ _ f.strong-1 onward.word_at-onward.ensures tail.has-holds.ensures c.before.only_if.ensures c.without-inside.ensures;
+      strong = follows_but a.rows.now _ a.a _ _ _ _ _ _ _ f.strong onward.word_at-onward.ensures tail.has-holds.ensures c.before.only_if.ensures c.without-inside.ensures;
     }
 
 pub implies_of_spec : {M : Type 1} → statement M

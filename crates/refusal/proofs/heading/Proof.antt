@@ -34,8 +34,8 @@ module _ (letter newest : ℕ) (s : List ℕ) where
     mark h = heading_answers letter newest s _ (sym (left1 ∙ stop _ _ _ (ap not (sym em) ∙ h)))
 
     module _ (hm : not m ≡ false) (n : ℕ) (en : n ≡ version s) (v : Bool) (ev : v ≡ is_known newest n) where
-      is_known : not v ≡ not (is_known newest (version s))
-      is_known = ap not (ev ∙ ap (is_known newest) en)
+      known_is : not v ≡ not (is_known newest (version s))
+      known_is = ap not (ev ∙ ap (is_known newest) en)
 
       left2 : Left 2
       unfolding heading_cases
@@ -43,11 +43,11 @@ module _ (letter newest : ℕ) (s : List ℕ) where
 
       unknown : not v ≡ true → Answers (heading_refusals letter newest s) (refused 3 0)
       unfolding heading_cases
-      unknown h = heading_answers letter newest s _ (sym (left2 ∙ stop _ _ _ (sym is_known ∙ h)))
+      unknown h = heading_answers letter newest s _ (sym (left2 ∙ stop _ _ _ (sym known_is ∙ h)))
 
       passes : not v ≡ false → Answers (heading_refusals letter newest s) accepted
       unfolding heading_cases
-      passes h = heading_answers letter newest s _ (sym (left2 ∙ skip _ _ _ (sym is_known ∙ h) ∙ through))
+      passes h = heading_answers letter newest s _ (sym (left2 ∙ skip _ _ _ (sym known_is ∙ h) ∙ through))
 
 pub heading_spec : {M : Type 1} → statement M
 heading_spec =

@@ -101,9 +101,9 @@ pub +put_piece_spec : {M : Type 1} → statement M
     let px = e3.before.before.before in
     let st = px.before.before in
     let start = st.before.before.before.before.before.before.before in
-    let r = room _ _ _ _ _ st.step_of.ensures _ _ _ _ _ px.put-piece.ensures e3.if3.false _ _ py.put-piece2.ensures e4.if4.false in
-    let k1 = px.put-piece.auto.0 in
-    let k2 = py.put-piece2.auto.0 in
+    let r = room _ _ _ _ _ st.step_of-step.ensures _ _ _ _ _ px.put_piece-middle.ensures e3.if-middle-gt120.false _ _ py.put_piece-end.ensures e4.if-end-gt120.false in
+    let k1 = px.put_piece-middle.auto.out in
+    let k2 = py.put_piece-end.auto.out in
     let l = start.requires.1.4 in
     omega arith)
     -- add-result
@@ -119,6 +119,6 @@ pub +put_piece_spec : {M : Type 1} → statement M
     let px = e3.before.before.before in
     let st = px.before.before in
     let start = st.before.before.before.before.before.before.before in
-    let r = room _ _ _ _ _ st.step_of.ensures _ _ _ _ _ px.put-piece.ensures e3.if3.false _ _ py.put-piece2.ensures e4.if4.false in
+    let r = room _ _ _ _ _ st.step_of-step.ensures _ _ _ _ _ px.put_piece-middle.ensures e3.if-middle-gt120.false _ _ py.put_piece-end.ensures e4.if-end-gt120.false in
     let l = start.requires.1.4 in
-    puts_node _ _ _ _ _ st.step_of.ensures _ _ _ _ _ px.put-piece.ensures e3.if3.false _ _ py.put-piece2.ensures e4.if4.false (omega arith) _ _ q.before.placed.ensures q.placed2.ensures _ c.before.before.put-node.ensures))
+    puts_node _ _ _ _ _ st.step_of-step.ensures _ _ _ _ _ px.put_piece-middle.ensures e3.if-middle-gt120.false _ _ py.put_piece-end.ensures e4.if-end-gt120.false (omega arith) _ _ q.before.placed.ensures q.placed-2.ensures _ c.before.before.put_node.ensures))
