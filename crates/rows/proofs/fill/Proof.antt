@@ -36,7 +36,7 @@ loop-again c =
     let r = c.before.before.put_row in
     let d = c.before.before.before in
     let l = (turn d).loop-k.invariant in
-    (search rules, r.auto.0 ∙ l.1, filled-step _ _ _ _ _ _ d.decode.result l.2 (node d) r.ensures)
+    (search rules, r.auto.ws ∙ l.1, filled-step _ _ _ _ _ _ d.decode.result l.2 (node d) r.ensures)
 
 pub fill_spec : {M : Type 1} → statement M
 fill_spec =

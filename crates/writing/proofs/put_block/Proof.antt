@@ -94,7 +94,7 @@ loop-again c =
       l.2,
       l.3,
       l.4,
-      p.put_node.auto.0 ∙ l.5,
+      p.put_node.auto.out ∙ l.5,
       step _ _ l.2 _ _ _ _ l.6 _ l.3 (omega arith) l.4 _ (made-node p).block_node.ensures _ p.put_node.ensures,
     )
 
