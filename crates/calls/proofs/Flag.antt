@@ -19,7 +19,7 @@ use Rattle.meaning.proofs.Theorems as Meaning
 use Rattle.nodes.specs.declared.Raw.{Raw}
 use Rattle.nodes.specs.declared.Node.{Node}
 use Rattle.nodes.specs.Operators.{bytes_of, property_bytes, derived_property_bytes}
-use Rattle.nodes.specs.Nodes.{raw_at, node_at, root}
+use Rattle.nodes.specs.Nodes.{raw_at, node_at}
 use Rattle.nodes.proofs.Built.{Built}
 use Rattle.nodes.proofs.Coded.{coded_as}
 use Rattle.nodes.proofs.Shapes.{down}

@@ -1,12 +1,11 @@
 -- What expanding answers, case by case: of a derived table by opening it, of an older one by copying it. Assumes nothing.
 use native.Mathlib.Omega.{arith}
-use borrow.Author.Tests.{eqb-false, eq-eqb, ne_eqb, le-ltb}
-use mathlib.Core.Path.{◌≡◌, refl, ◌∙◌, sym, ap, subst}
+use borrow.Author.Tests.{eq-eqb, ne_eqb, le-ltb}
+use mathlib.Core.Path.{◌≡◌, refl, ◌∙◌, sym, ap}
 use mathlib.Core.Logic.{inl, inr}
-use mathlib.Core.Bool.{Bool, true, false, not, ◌&&◌, true≢false}
-use mathlib.Core.List.{List, [], ◌∷◌, ◌++◌}
+use mathlib.Core.Bool.{true, false, true≢false}
+use mathlib.Core.List.{List, ◌++◌}
 use Prim.Native.Nat.{ℕ, ◌+◌, ◌*◌, ◌<◌, ◌≤◌}
-use lib.Dec.{eqb, ltb}
 use lib.ListN.{length, take, drop}
 use lib.Seq.{take_at, take-length}
 use Rattle.refusal.specs.declared.Verdict.{Verdict}
@@ -14,12 +13,12 @@ use Rattle.refusal.specs.First.{Answers, NotGiven}
 use Rattle.refusal.specs.Heading.{version, count}
 use Rattle.refusal.proofs.Given.{none_given, not_given-append, answers_after, answers_stopped, answers_beyond}
 use Rattle.nodes.specs.Operators.{none, newest}
-use Rattle.nodes.specs.Nodes.{sort_at, root}
+use Rattle.nodes.specs.Nodes.{root}
 use Rattle.nodes.proofs.Built.{Built}
 use Rattle.table.specs.Check.{refusals_to, ChecksTo}
 use Rattle.table.proofs.CheckingTo.{sound, checks_given, checks_none}
 use Rattle.encoding.specs.Encoding.{put}
-use Rattle.expansion.specs.Expansion.{base_count, base_table, expansion, expanded_count, too_large}
+use Rattle.expansion.specs.Expansion.{base_count, base_table, expansion, expanded_count}
 use Rattle.expansion.proofs.Theorems.{length-table}
 use Rattle.expand.specs.declared.Expansion.{Expansion}
 use Rattle.expand.specs.Expands.{expand_refusals, Expands}

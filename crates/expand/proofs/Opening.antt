@@ -1,10 +1,10 @@
 -- What opening a version 3 table answers, case by case. Assumes nothing.
 use native.Mathlib.Omega.{arith}
 use borrow.Author.Tests.{eqb-true, eq-eqb}
-use mathlib.Core.Path.{◌≡◌, refl, ◌∙◌, sym, ap, subst}
+use mathlib.Core.Path.{◌≡◌, refl, ◌∙◌, sym, ap}
 use mathlib.Core.Logic.{inl, inr, ⊎_elim}
 use mathlib.Core.Bool.{Bool, true, false, not, ◌&&◌, true≢false}
-use mathlib.Core.List.{List, [], ◌∷◌}
+use mathlib.Core.List.{List}
 use Prim.Native.Nat.{ℕ, ◌+◌, ◌*◌, ◌-◌, ◌<◌, ◌≤◌}
 use lib.Dec.{eqb, ltb}
 use lib.ListN.{length, drop}
@@ -13,12 +13,12 @@ use Rattle.refusal.specs.declared.Verdict.{Verdict}
 use Rattle.refusal.specs.First.{Answers, NotGiven}
 use Rattle.refusal.specs.Heading.{version, count}
 use Rattle.refusal.proofs.Given.{none_given, answers_stopped, answers_beyond}
-use Rattle.nodes.specs.Operators.{boolean, sequence, newest}
+use Rattle.nodes.specs.Operators.{sequence, newest}
 use Rattle.nodes.specs.Nodes.{sort_at, root}
 use Rattle.nodes.proofs.Built.{Built}
 use Rattle.table.specs.Check.{refusals_to, ChecksTo}
 use Rattle.table.proofs.CheckingTo.{sound, checks_given}
-use Rattle.expansion.specs.Expansion.{base_count, expanded_count, too_large}
+use Rattle.expansion.specs.Expansion.{base_count, expanded_count}
 use Rattle.expansion.specs.Formed.{Formed}
 use Rattle.expand.specs.declared.Expansion.{Expansion}
 use Rattle.expand.specs.Opens.{has_version3, refused_expansion, Unfolds, open_refusals, Opens}

@@ -1,7 +1,7 @@
 -- The booleans, the root's form and the heading make the expanded table. Assumes nothing.
 use native.Mathlib.Omega.{arith}
-use mathlib.Core.Path.{◌≡◌, refl, ◌∙◌, sym, ap}
-use mathlib.Core.List.{List, ◌++◌}
+use mathlib.Core.Path.{◌≡◌, ◌∙◌, sym, ap}
+use mathlib.Core.List.{List}
 use Prim.Native.Nat.{ℕ, ◌+◌, ◌*◌, ◌-◌, ◌<◌, ◌≤◌}
 use lib.ListN.{length}
 use Rattle.refusal.specs.Heading.{count}
@@ -12,7 +12,7 @@ use Rattle.encoding.proofs.Putting.{put_more, put_before, encoded-append}
 use Rattle.expansion.specs.Forms.{Form, size, written}
 use Rattle.expansion.specs.Booleans.{number_of, booleans_below}
 use Rattle.expansion.specs.Nodes.{form_of}
-use Rattle.expansion.specs.Formed.{Formed, NumberedBelow}
+use Rattle.expansion.specs.Formed.{Formed}
 use Rattle.expansion.specs.Expansion.{base_count, base_nodes, base_table}
 use Rattle.expansion.proofs.Numbering.{number_le, length-booleans}
 use Rattle.firsts.specs.Firsts.{FirstsPut}

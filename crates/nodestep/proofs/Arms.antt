@@ -4,7 +4,7 @@ use borrow.Author.Tests.{lt-ltb, ne_eqb, eqb-true, not-false}
 use mathlib.Core.Path.{◌≡◌, refl, ◌∙◌, sym, ap, subst}
 use mathlib.Core.Bool.{Bool, true, false, not, cond, ◌||◌}
 use mathlib.Core.List.{List, map}
-use Prim.Native.Nat.{ℕ, ◌+◌, ◌*◌, ◌/◌, ◌%◌, ◌<◌, ◌≤◌}
+use Prim.Native.Nat.{ℕ, ◌/◌, ◌%◌, ◌<◌, ◌≤◌}
 use lib.Dec.{T, eqb, leb}
 use lib.ListN.{get_or}
 use Rattle.nodes.specs.declared.Raw.{Raw}

@@ -1,9 +1,9 @@
 -- The step of a node, by its kind. Assumes nothing.
 use native.Mathlib.Omega.{arith}
 use native.Mathlib.Nat.{max-le}
-use mathlib.Core.Path.{◌≡◌, refl, ◌∙◌, sym, ap, subst}
+use mathlib.Core.Path.{◌≡◌, sym, subst}
 use mathlib.Core.List.{List}
-use Prim.Native.Nat.{ℕ, suc, ◌+◌, ◌*◌, ◌<◌, ◌≤◌, max}
+use Prim.Native.Nat.{ℕ, suc, ◌+◌, ◌<◌, ◌≤◌, max}
 use lib.Dec.{T}
 use Rattle.nodes.specs.declared.Node.{Node}
 use Rattle.nodes.specs.declared.Node.TheVariants.{Boolean, Sequence, Property}
@@ -12,9 +12,9 @@ use Rattle.nodes.specs.declared.PropertyOp.TheVariants.{Strong, Weak, Negated, A
 use Rattle.nodes.specs.declared.DerivedSequence.TheVariants.{Repeated, Delayed, Goto, Nonconsecutive}
 use Rattle.nodes.specs.declared.DerivedProperty.TheVariants.{ImpliesNext, Followed, FollowedNext, Always, Eventually, StrongUntil, StrongNext}
 use Rattle.nodes.specs.Operators.{sequence, operators, lookup, row_of, bytes_of, sequence_bytes, property_bytes}
-use Rattle.nodes.specs.Nodes.{sort_at, node_at, WellFormed}
+use Rattle.nodes.specs.Nodes.{node_at, WellFormed}
 use Rattle.nodes.proofs.Coded.{is_base}
-use Rattle.nodes.proofs.Shapes.{sort_of, Suits, down, sort_is}
+use Rattle.nodes.proofs.Shapes.{sort_of, Suits, down}
 use Rattle.expansion.specs.Forms.{Form, byte, node}
 use Rattle.expansion.specs.Nodes.{node_form, form_of}
 use Rattle.expansion.specs.Booleans.{number_of}
@@ -24,7 +24,7 @@ use Rattle.pieces.specs.declared.SequencePiece.TheVariants.{AnyLetters, Times, N
 use Rattle.pieces.specs.declared.PropertyPiece.TheVariants.{ImpliesNot, ImpliesNextNot, WeakOf, Never, UntilOf, EventuallyOf, NextNot}
 use Rattle.pieces.specs.declared.Piece.TheVariants.{Byte, NodeOf, SequenceOf, PropertyOf}
 use Rattle.pieces.specs.declared.Step.{Step}
-use Rattle.pieces.specs.Pieces.{subject_form, sequence_form, property_form, piece_form, subject_rank, sequence_rank, property_rank, rank, over_both, Heavy, SubjectFits, SequenceFits, PropertyFits, Fits, Stepped}
+use Rattle.pieces.specs.Pieces.{subject_form, sequence_form, property_form, piece_form, subject_rank, sequence_rank, property_rank, rank, Heavy, SubjectFits, SequenceFits, PropertyFits, Fits, Stepped}
 use Rattle.pieces.specs.Steps.{step, times_step, range_step, delay_step}
 use Rattle.nodestep.specs.Operands.{operand_x, operand_y, base_step}
 use Rattle.pieces.proofs.Stepping.{raised, times_steps, range_steps, delay_steps}

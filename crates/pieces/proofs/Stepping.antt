@@ -2,11 +2,11 @@
 use native.Mathlib.Omega.{arith}
 use native.Mathlib.Nat.{le-max_left, le-max_right}
 use native.Mathlib.Numerals.{sub-one}
-use borrow.Author.Tests.{eq-eqb, ne_eqb, lt-ltb, le-ltb}
-use mathlib.Core.Path.{◌≡◌, refl, ◌∙◌, sym, subst}
+use borrow.Author.Tests.{ne_eqb, lt-ltb, le-ltb}
+use mathlib.Core.Path.{◌≡◌, refl, sym}
 use mathlib.Core.Logic.{⊎_elim}
 use mathlib.Core.List.{List}
-use Prim.Native.Nat.{ℕ, zero, suc, ◌+◌, ◌*◌, ◌-◌, ◌<◌, ◌≤◌, max}
+use Prim.Native.Nat.{ℕ, zero, suc, ◌+◌, ◌*◌, ◌<◌, ◌≤◌}
 use Rattle.telling.proofs.Telling.{side}
 use Rattle.expansion.specs.Forms.{Form, node}
 use Rattle.expansion.specs.Blocks.{times, range, delay}
@@ -16,11 +16,10 @@ use Rattle.pieces.specs.declared.SequencePiece.{SequencePiece}
 use Rattle.pieces.specs.declared.SequencePiece.TheVariants.{LetterOf, NoLetter, Letters, AnyLetters, GroupOf, Times, Range, Meeting, Delay, Later, NextLetter}
 use Rattle.pieces.specs.declared.PropertyPiece.{PropertyPiece}
 use Rattle.pieces.specs.declared.PropertyPiece.TheVariants.{NotOf, ImpliesNot, ImpliesNextNot, WeakOf, Never, UntilOf, EventuallyOf, NextNot}
-use Rattle.pieces.specs.declared.Piece.{Piece}
-use Rattle.pieces.specs.declared.Piece.TheVariants.{Byte, NodeOf, SequenceOf, PropertyOf}
+use Rattle.pieces.specs.declared.Piece.TheVariants.{Byte}
 use Rattle.pieces.specs.declared.Step.{Step}
 use Rattle.pieces.specs.Pieces.{subject_piece, subject_form, sequence_form, property_form, piece_form, subject_rank, sequence_rank, property_rank, rank, over_both, Heavy, SubjectFits, SequenceFits, PropertyFits, Fits, Stepped}
-use Rattle.pieces.specs.Steps.{step, times_step, range_step, delay_step, sequence_step, property_step}
+use Rattle.pieces.specs.Steps.{times_step, range_step, delay_step, sequence_step, property_step}
 
 module _ (F : ℕ → Form) (s : List ℕ) (n : ℕ) where
   abbrev Steps : Form → ℕ → Step → Type 0

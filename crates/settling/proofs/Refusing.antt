@@ -28,7 +28,7 @@ use Rattle.numbers.specs.Numbers.{new_count}
 use Rattle.writing.specs.Tables.{new_table}
 use Rattle.rewrite.specs.Rewrites.{OfClocks, too_many, Rewrites}
 use Rattle.rewrite.specs.Rewrites as Rewrites
-use Rattle.rewrite.specs.Computed.{Renumbered, rewriting_of, renumbered, Renumbers}
+use Rattle.rewrite.specs.Computed.{Renumbered, rewriting_of, Renumbers}
 use Rattle.clocks.proofs.Timing.{clocks_unique}
 use Rattle.rewrite.proofs.Deciding.{few_new}
 use Rattle.rewrite.proofs.Theorems.{output_is}

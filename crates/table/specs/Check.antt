@@ -11,7 +11,7 @@ use Rattle.nodes.specs.declared.Node.{Node}
 use Rattle.nodes.specs.declared.Node.TheVariants.{Property}
 use Rattle.nodes.specs.declared.PropertyOp.TheVariants.{Strong, Weak, Implies, Defined}
 use Rattle.nodes.specs.declared.DerivedProperty.TheVariants.{ImpliesNext, Followed, FollowedNext}
-use Rattle.nodes.specs.Operators.{boolean, newest, base}
+use Rattle.nodes.specs.Operators.{boolean, base}
 use Rattle.nodes.specs.Nodes.{sort_at, node_at, root, WellFormed, Astray}
 use Rattle.nodes.specs.NodeClock.{Ref, ClockOf}
 use Rattle.table.specs.Trees.{SequenceAt, ClockAt}

@@ -1,7 +1,7 @@
 -- `judge::lay` meets its contract: a law of Judging.antt at each goal. Assumes nothing.
 use native.Mathlib.Omega.{arith}
 use mathlib.Core.Path.{refl}
-use Rattle.judge.proofs.Judging.{four_fit, used_fit, used_within, used_bytes, fits, lays_refused, lays_rows}
+use Rattle.judge.proofs.Judging.{four_fit, used_fit, used_within, used_bytes, fits}
 use Rattle.judge.proofs.lay.Goals as goal
 
 pub overflow_mul-used : goal.overflow_mul-used

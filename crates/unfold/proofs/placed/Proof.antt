@@ -2,7 +2,7 @@
 use borrow.Author.Rules.{rules}
 use native.Mathlib.Omega.{arith}
 use mathlib.Core.Path.{◌≡◌}
-use Prim.Native.Nat.{ℕ, ◌-◌, ◌<◌, ◌≤◌}
+use Prim.Native.Nat.{ℕ, ◌-◌, ◌≤◌}
 use Rattle.pieces.specs.declared.SequencePiece.{SequencePiece}
 use Rattle.pieces.specs.declared.PropertyPiece.{PropertyPiece}
 use Rattle.pieces.specs.declared.Piece.{Piece}
