@@ -11,43 +11,50 @@ enum Question {
 }
 
 // Runs a case on the samples that the text lists.
-pub fn run(head: &[u8], table: &[u8], text: &[u8], short: bool) -> bool {
+pub fn run(rt: &impl Print, head: &[u8], table: &[u8], text: &[u8], short: bool) -> bool {
     let mut space = [0u64; 100];
     let samples = lists::numbers(text, 1, 16, &mut space);
     let count = samples.count;
     if !samples.good {
         return false;
     }
-    call(head, table, &space[0..count], short)
+    call(rt, head, table, &space[0..count], short)
 }
 
 // Asks what the head says.
-fn call(head: &[u8], table: &[u8], samples: &[u64], short: bool) -> bool {
+fn call(rt: &impl Print, head: &[u8], table: &[u8], samples: &[u64], short: bool) -> bool {
     let size = text::after(head, b"judge ");
     if size > 0 {
-        return lend(&head[size..], table, samples, Question::Level, short);
+        return lend(rt, &head[size..], table, samples, Question::Level, short);
     }
     let start = text::after(head, b"ends ");
     if start > 0 {
-        return begin(&head[start..], table, samples, short);
+        return begin(rt, &head[start..], table, samples, short);
     }
     let label = text::after(head, b"plain ");
     if label > 0 {
         let got = plain_judge(table, samples);
-        answers::plain(&head[label..], got.verdict, got.level.number, got.tested);
+        answers::plain(
+            rt,
+            &head[label..],
+            got.verdict,
+            got.level.number,
+            got.tested,
+        );
         return true;
     }
     false
 }
 
 // Asks for the match ends from the start that the text, two numbers and a label, begins with.
-fn begin(text: &[u8], table: &[u8], samples: &[u64], short: bool) -> bool {
+fn begin(rt: &impl Print, text: &[u8], table: &[u8], samples: &[u64], short: bool) -> bool {
     let start = text::opening(text, usize::MAX);
     let size = start.rest;
     if !start.good {
         return false;
     }
     lend(
+        rt,
         &text[size..],
         table,
         samples,
@@ -57,7 +64,14 @@ fn begin(text: &[u8], table: &[u8], samples: &[u64], short: bool) -> bool {
 }
 
 // Lends as many words as the text, a number and a label, begins with.
-fn lend(text: &[u8], table: &[u8], samples: &[u64], question: Question, short: bool) -> bool {
+fn lend(
+    rt: &impl Print,
+    text: &[u8],
+    table: &[u8],
+    samples: &[u64],
+    question: Question,
+    short: bool,
+) -> bool {
     let asked = text::opening(text, 7865);
     let lent = asked.value;
     let label = asked.rest;
@@ -66,6 +80,7 @@ fn lend(text: &[u8], table: &[u8], samples: &[u64], question: Question, short: b
     }
     let mut words = [0u64; 7865];
     ask(
+        rt,
         &text[label..],
         table,
         samples,
@@ -78,6 +93,7 @@ fn lend(text: &[u8], table: &[u8], samples: &[u64], question: Question, short: b
 
 // The words are printed whole, so that those left alone are seen.
 fn ask(
+    rt: &impl Print,
     label: &[u8],
     table: &[u8],
     samples: &[u64],
@@ -90,6 +106,7 @@ fn ask(
         Question::Level => {
             let got = judge(table, samples, words);
             answers::judgement(
+                rt,
                 label,
                 got.verdict,
                 got.level.number,
@@ -98,6 +115,7 @@ fn ask(
                 short,
             );
             beside(
+                rt,
                 label,
                 table,
                 samples,
@@ -108,13 +126,21 @@ fn ask(
         }
         Question::Ends(start) => {
             let got = match_ends(table, samples, start, words);
-            answers::ends(label, got.verdict, got.mask.bits, got.top, words, short);
+            answers::ends(rt, label, got.verdict, got.mask.bits, got.top, words, short);
         }
     }
 }
 
 // Where the judge accepts, the plain judge has to say the same. An answer of it that differs is printed on a line of its own, so that it is seen.
-fn beside(label: &[u8], table: &[u8], samples: &[u64], v: Verdict, level: u8, tested: bool) {
+fn beside(
+    rt: &impl Print,
+    label: &[u8],
+    table: &[u8],
+    samples: &[u64],
+    v: Verdict,
+    level: u8,
+    tested: bool,
+) {
     if !answers::accepted(v) {
         return;
     }
@@ -123,6 +149,6 @@ fn beside(label: &[u8], table: &[u8], samples: &[u64], v: Verdict, level: u8, te
         & (got.level.number == level)
         & (got.tested == tested);
     if !same {
-        answers::plain(label, got.verdict, got.level.number, got.tested);
+        answers::plain(rt, label, got.verdict, got.level.number, got.tested);
     }
 }

@@ -34,17 +34,19 @@ mod tables;
 
 use lines::Held;
 
-// Runs all cases; `short` is whether what was lent is printed in short. A proved loop has to end, and nothing says that the input does: the turns count down
-// from a number that no run uses up.
-pub fn run(short: bool) {
+// Runs all cases; `short` is whether what was lent is printed in short. A proved loop has to end, and nothing says that the input does: there are as many turns
+// as no run uses up.
+pub fn run(rt: &(impl Input + Print), short: bool) {
+    let mut input = rt.reader();
     let mut line = [0u8; 8193];
     let mut held = Held {
         len: 0,
         going: true,
     };
-    let mut turns = u64::MAX;
-    while turns > 0 && held.going {
-        held = lines::take_piece(&mut line, held.len, short);
-        turns -= 1;
+    for _ in 0..u64::MAX {
+        if !held.going {
+            return;
+        }
+        held = lines::take_piece(rt, &mut input, &mut line, held.len, short);
     }
 }

@@ -1,7 +1,7 @@
 // Taking lines from standard input, piece by piece.
 use crate::case;
 use casetext::answers;
-use libc::STDIN_FILENO;
+use std::io::Read;
 
 // How many bytes of the present line are kept, and whether there is more to read.
 #[derive(Clone, Copy)]
@@ -10,39 +10,42 @@ pub struct Held {
     pub going: bool,
 }
 
-// Reads once and runs the lines that end in what came. Where nothing comes, the line that is kept is the last.
-pub fn take_piece(line: &mut [u8; 8193], len: usize, short: bool) -> Held {
-    let mut piece = io::buffer();
-    let got = libc::read(STDIN_FILENO, &mut piece);
-    let count = io::count(got, &piece);
+// Reads once and runs the lines that end in what came. Where nothing comes, or the read fails, the line that is kept is the last.
+pub fn take_piece(
+    rt: &impl Print,
+    input: &mut impl Read,
+    line: &mut [u8; 8193],
+    len: usize,
+    short: bool,
+) -> Held {
+    let mut piece = [0u8; 4096];
+    let count = input.read(&mut piece).unwrap_or(0);
     if count == 0 {
-        end_line(line, len, short);
+        end_line(rt, line, len, short);
         return Held {
             len: 0,
             going: false,
         };
     }
     Held {
-        len: take_bytes(line, len, &piece[..count], short),
+        len: take_bytes(rt, line, len, &piece[..count], short),
         going: true,
     }
 }
 
 // Takes a piece byte by byte; how many bytes are kept then.
-fn take_bytes(line: &mut [u8], before: usize, piece: &[u8], short: bool) -> usize {
+fn take_bytes(rt: &impl Print, line: &mut [u8], before: usize, piece: &[u8], short: bool) -> usize {
     let mut len = before;
-    let mut i = 0;
-    while i < piece.len() {
-        len = take_byte(line, len, piece[i], short);
-        i += 1;
+    for byte in piece {
+        len = take_byte(rt, line, len, *byte, short);
     }
     len
 }
 
 // Runs the line at its end, and until then keeps each byte for which there is room.
-fn take_byte(line: &mut [u8], len: usize, byte: u8, short: bool) -> usize {
+fn take_byte(rt: &impl Print, line: &mut [u8], len: usize, byte: u8, short: bool) -> usize {
     if byte == b'\n' {
-        end_line(line, len, short);
+        end_line(rt, line, len, short);
         return 0;
     }
     if len < line.len() {
@@ -53,10 +56,10 @@ fn take_byte(line: &mut [u8], len: usize, byte: u8, short: bool) -> usize {
 }
 
 // Runs a line that has ended. One that fills the buffer is too long, and no case.
-fn end_line(line: &[u8], len: usize, short: bool) {
+fn end_line(rt: &impl Print, line: &[u8], len: usize, short: bool) {
     if len < line.len() {
-        case::run(&line[0..len], short);
+        case::run(rt, &line[0..len], short);
     } else {
-        answers::unread(line);
+        answers::unread(rt, line);
     }
 }

@@ -9,73 +9,71 @@ use nodes::operators::{NONE, row_of};
 use nodes::{Raw, node_at};
 use refusal::Verdict;
 
-fn put_more(byte: u8) {
-    put(b",");
-    put_number(byte as u64);
+fn put_more(rt: &impl Print, byte: u8) {
+    put(rt, b",");
+    put_number(rt, byte as u64);
 }
 
 // y and the fourth byte. The 0 that an operator asks for is left out, and any other byte is printed, so that it is seen.
-fn put_later(v: Raw) {
+fn put_later(rt: &impl Print, v: Raw) {
     let row = row_of(v.op);
     if (v.y != 0) | (v.fourth != 0) | (row.y != NONE) {
-        put_more(v.y);
+        put_more(rt, v.y);
     }
     if v.fourth != 0 {
-        put_more(v.fourth);
+        put_more(rt, v.fourth);
     }
 }
 
-fn put_node(v: Raw) {
-    put(b" ");
-    put_number(v.op as u64);
-    put(b"(");
-    put_number(v.x as u64);
-    put_later(v);
-    put(b")");
+fn put_node(rt: &impl Print, v: Raw) {
+    put(rt, b" ");
+    put_number(rt, v.op as u64);
+    put(rt, b"(");
+    put_number(rt, v.x as u64);
+    put_later(rt, v);
+    put(rt, b")");
 }
 
-fn put_nodes(out: &[u8], count: usize)
+fn put_nodes(rt: &impl Print, out: &[u8], count: usize)
     requires { 4 * count + 6 ≤ length out.now }
 {
-    let mut k = 0;
-    while k < count {
-        put_node(node_at(out, k));
-        k += 1;
+    for k in 0..count {
+        put_node(rt, node_at(out, k));
     }
 }
 
 // The heading, so many nodes, and the bytes after them. Where the bytes are too few for so many, no byte is taken for a node.
-fn put_table(out: &[u8], count: usize) {
+fn put_table(rt: &impl Print, out: &[u8], count: usize) {
     if count > 120 {
-        put_bytes(out, 0);
+        put_bytes(rt, out, 0);
         return;
     }
     let end = 4 * count + 6;
     if end > out.len() {
-        put_bytes(out, 0);
+        put_bytes(rt, out, 0);
         return;
     }
-    put_bytes(&out[0..6], 0);
-    put_nodes(out, count);
-    put_bytes(out, end);
+    put_bytes(rt, &out[0..6], 0);
+    put_nodes(rt, out, count);
+    put_bytes(rt, out, end);
 }
 
 // After an acceptance the bytes begin with a table.
-fn put_output(v: Verdict, count: usize, out: &[u8], short: bool) {
+fn put_output(rt: &impl Print, v: Verdict, count: usize, out: &[u8], short: bool) {
     if short {
-        put_digits(out);
+        put_digits(rt, out);
     } else if accepted(v) {
-        put_table(out, count);
+        put_table(rt, out, count);
     } else {
-        put_bytes(out, 0);
+        put_bytes(rt, out, 0);
     }
 }
 
 // What was answered, and the bytes that were lent.
-pub fn written(label: &[u8], v: Verdict, count: usize, out: &[u8], short: bool) {
-    put_label(label);
-    put_count(v, count, b" nodes");
-    put(b", bytes");
-    put_output(v, count, out, short);
-    put(b"\n");
+pub fn written(rt: &impl Print, label: &[u8], v: Verdict, count: usize, out: &[u8], short: bool) {
+    put_label(rt, label);
+    put_count(rt, v, count, b" nodes");
+    put(rt, b", bytes");
+    put_output(rt, v, count, out, short);
+    put(rt, b"\n");
 }

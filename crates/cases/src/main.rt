@@ -1,6 +1,6 @@
 // The page's cases, worked out by hand. What was lent is printed in full. How a case is written is said in `casebook`.
 #![tactic(auto)]
 
-fn main() {
-    casebook::run(false);
+fn main(rt: HostRuntime) {
+    casebook::run(&rt, false);
 }

@@ -5,10 +5,10 @@ use crate::short::put_digest;
 use refusal::Verdict;
 
 // A line that is no case.
-pub fn unread(line: &[u8]) {
-    put(b"cannot read case: ");
-    put(line);
-    put(b"\n");
+pub fn unread(rt: &impl Print, line: &[u8]) {
+    put(rt, b"cannot read case: ");
+    put(rt, line);
+    put(rt, b"\n");
 }
 
 // An acceptance has number and node 0: one with another node is printed as a refusal, so that it is seen.
@@ -16,111 +16,125 @@ pub fn accepted(v: Verdict) -> bool {
     (v.number == 0) & (v.node == 0)
 }
 
-pub fn put_label(label: &[u8]) {
-    put(label);
-    put(b": ");
+pub fn put_label(rt: &impl Print, label: &[u8]) {
+    put(rt, label);
+    put(rt, b": ");
 }
 
-fn put_refusal(v: Verdict) {
-    put(b"refused ");
-    put_number(v.number as u64);
-    put(b" at ");
-    put_number(v.node as u64);
+fn put_refusal(rt: &impl Print, v: Verdict) {
+    put(rt, b"refused ");
+    put_number(rt, v.number as u64);
+    put(rt, b" at ");
+    put_number(rt, v.node as u64);
 }
 
 // What checking a table answered.
-pub fn table(label: &[u8], v: Verdict) {
-    put_label(label);
+pub fn table(rt: &impl Print, label: &[u8], v: Verdict) {
+    put_label(rt, label);
     if accepted(v) {
-        put(b"accepted");
+        put(rt, b"accepted");
     } else {
-        put_refusal(v);
+        put_refusal(rt, v);
     }
-    put(b"\n");
+    put(rt, b"\n");
 }
 
 // What the program answered, a line with its end.
-pub fn program(label: &[u8], line: &[u8]) {
-    put_label(label);
-    put(line);
+pub fn program(rt: &impl Print, label: &[u8], line: &[u8]) {
+    put_label(rt, label);
+    put(rt, line);
 }
 
 // What reading a record answered, and the words that were lent.
-pub fn record(label: &[u8], v: Verdict, count: usize, words: &[u64]) {
-    put_label(label);
-    put_count(v, count, b" samples");
-    put(b", words");
-    put_words(words);
-    put(b"\n");
+pub fn record(rt: &impl Print, label: &[u8], v: Verdict, count: usize, words: &[u64]) {
+    put_label(rt, label);
+    put_count(rt, v, count, b" samples");
+    put(rt, b", words");
+    put_words(rt, words);
+    put(rt, b"\n");
 }
 
 // What the judge answered, and the words that were lent.
-pub fn judgement(label: &[u8], v: Verdict, level: u8, tested: bool, words: &[u64], short: bool) {
-    put_level(label, v, level, tested);
-    put_lent(words, short);
+pub fn judgement(
+    rt: &impl Print,
+    label: &[u8],
+    v: Verdict,
+    level: u8,
+    tested: bool,
+    words: &[u64],
+    short: bool,
+) {
+    put_level(rt, label, v, level, tested);
+    put_lent(rt, words, short);
 }
 
 // What the plain judge answered, to which nothing is lent.
-pub fn plain(label: &[u8], v: Verdict, level: u8, tested: bool) {
-    put_level(label, v, level, tested);
-    put(b"\n");
+pub fn plain(rt: &impl Print, label: &[u8], v: Verdict, level: u8, tested: bool) {
+    put_level(rt, label, v, level, tested);
+    put(rt, b"\n");
 }
 
 // What either judge says.
-fn put_level(label: &[u8], v: Verdict, level: u8, tested: bool) {
-    put_judged(label, v);
-    put(b"level ");
-    put_number(level as u64);
-    put(b" tested ");
-    put_yes(tested);
+fn put_level(rt: &impl Print, label: &[u8], v: Verdict, level: u8, tested: bool) {
+    put_judged(rt, label, v);
+    put(rt, b"level ");
+    put_number(rt, level as u64);
+    put(rt, b" tested ");
+    put_yes(rt, tested);
 }
 
 // What match ends answered, and the words that were lent.
-pub fn ends(label: &[u8], v: Verdict, mask: u64, top: bool, words: &[u64], short: bool) {
-    put_judged(label, v);
-    put(b"ends ");
-    put_hex(mask, 1);
-    put(b" top ");
-    put_yes(top);
-    put_lent(words, short);
+pub fn ends(
+    rt: &impl Print,
+    label: &[u8],
+    v: Verdict,
+    mask: u64,
+    top: bool,
+    words: &[u64],
+    short: bool,
+) {
+    put_judged(rt, label, v);
+    put(rt, b"ends ");
+    put_hex(rt, mask, 1);
+    put(rt, b" top ");
+    put_yes(rt, top);
+    put_lent(rt, words, short);
 }
 
 // The label, and the refusal where there is one; the rest of the answer follows.
-fn put_judged(label: &[u8], v: Verdict) {
-    put_label(label);
+fn put_judged(rt: &impl Print, label: &[u8], v: Verdict) {
+    put_label(rt, label);
     if !accepted(v) {
-        put_refusal(v);
-        put(b", ");
+        put_refusal(rt, v);
+        put(rt, b", ");
     }
 }
 
-fn put_lent(words: &[u64], short: bool) {
-    put(b", words");
+fn put_lent(rt: &impl Print, words: &[u64], short: bool) {
+    put(rt, b", words");
     if short {
-        put_digest(words);
+        put_digest(rt, words);
     } else {
-        put_shares(words);
+        put_shares(rt, words);
     }
-    put(b"\n");
+    put(rt, b"\n");
 }
 
 // How many samples were read or nodes written, or the refusal with the count that came with it.
-pub fn put_count(v: Verdict, count: usize, things: &[u8]) {
+pub fn put_count(rt: &impl Print, v: Verdict, count: usize, things: &[u8]) {
     if accepted(v) {
-        put_number(count as u64);
-        put(things);
+        put_number(rt, count as u64);
+        put(rt, things);
         return;
     }
-    put_refusal(v);
-    put(b", count ");
-    put_number(count as u64);
+    put_refusal(rt, v);
+    put(rt, b", count ");
+    put_number(rt, count as u64);
 }
 
-fn put_words(words: &[u64]) {
-    let mut i = 0;
-    while i < words.len() {
-        put(b" ");
-        put_number(words[i]);
-        i += 1;
+fn put_words(rt: &impl Print, words: &[u64]) {
+    for word in words {
+        put(rt, b" ");
+        put_number(rt, *word);
     }
 }

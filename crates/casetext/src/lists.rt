@@ -48,10 +48,8 @@ fn run_of(text: &[u8], least: usize, most: usize) -> Run {
 fn fill(out: &mut [u64], from: usize, times: usize, value: u64)
     requires { from + times ≤ length out.old }
 {
-    let mut i = 0;
-    while i < times {
+    for i in 0..times {
         out[from + i] = value;
-        i += 1;
     }
 }
 
@@ -98,10 +96,8 @@ pub fn numbers(text: &[u8], least: usize, most: usize, out: &mut [u64]) -> Taken
 fn narrow(numbers: &[u64], out: &mut [u8])
     requires { length numbers.now ≤ length out.old }
 {
-    let mut i = 0;
-    while i < numbers.len() {
+    for i in 0..numbers.len() {
         out[i] = (numbers[i] % 256) as u8;
-        i += 1;
     }
 }
 

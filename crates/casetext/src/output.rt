@@ -11,10 +11,8 @@ fn lent(i: usize) -> u8 {
 
 // Fills the bytes as they are lent.
 pub fn fill(out: &mut [u8]) {
-    let mut i = 0;
-    while i < out.len() {
+    for i in 0..out.len() {
         out[i] = lent(i);
-        i += 1;
     }
 }
 
@@ -23,29 +21,27 @@ fn changed(out: &[u8], from: usize) -> usize
     requires { from ≤ length out.now }
     ensures { (from ≤ result) × (result ≤ length out.now) }
 {
-    let mut i = from;
-    while i < out.len() {
+    for i in from..out.len() {
         if out[i] != lent(i) {
             return i;
         }
-        i += 1;
     }
-    i
+    out.len()
 }
 
 // The bytes from a place on: how many hold what was lent, then the next one that does not, and so on.
-pub fn put_bytes(out: &[u8], from: usize)
+pub fn put_bytes(rt: &impl Print, out: &[u8], from: usize)
     requires { from ≤ length out.now }
 {
     let mut at = from;
     while at < out.len() {
         let end = changed(out, at);
-        put_kept(end - at);
+        put_kept(rt, end - at);
         if end == out.len() {
             return;
         }
-        put(b" ");
-        put_byte(out[end]);
+        put(rt, b" ");
+        put_byte(rt, out[end]);
         at = end + 1;
     }
 }

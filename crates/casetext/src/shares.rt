@@ -15,10 +15,8 @@ fn lent(i: usize) -> u64 {
 
 // Fills the words as they are lent.
 pub fn fill(words: &mut [u64]) {
-    let mut i = 0;
-    while i < words.len() {
+    for i in 0..words.len() {
         words[i] = lent(i);
-        i += 1;
     }
 }
 
@@ -27,14 +25,12 @@ fn changed(words: &[u64], from: usize) -> usize
     requires { from ≤ length words.now }
     ensures { (from ≤ result) × (result ≤ length words.now) }
 {
-    let mut i = from;
-    while i < words.len() {
+    for i in from..words.len() {
         if words[i] != lent(i) {
             return i;
         }
-        i += 1;
     }
-    i
+    words.len()
 }
 
 // The place after the share that begins at the one given, of so many words.
@@ -49,64 +45,62 @@ fn share_end(len: usize, start: usize) -> usize
     }
 }
 
-fn put_word(word: u64, before: u64) {
+fn put_word(rt: &impl Print, word: u64, before: u64) {
     if word == before {
-        put(b"kept");
+        put(rt, b"kept");
     } else {
-        put_hex(word, 1);
+        put_hex(rt, word, 1);
     }
 }
 
 // A word with its place in the share, after a space where another stands before it; nothing of a word that is 0.
-fn put_place(place: usize, word: u64, before: u64, spaced: bool) {
+fn put_place(rt: &impl Print, place: usize, word: u64, before: u64, spaced: bool) {
     if word == 0 {
         return;
     }
     if spaced {
-        put(b" ");
+        put(rt, b" ");
     }
-    put_number(place as u64);
-    put(b":");
-    put_word(word, before);
+    put_number(rt, place as u64);
+    put(rt, b":");
+    put_word(rt, word, before);
 }
 
 // The words of a share that are not 0.
-fn put_places(words: &[u64], start: usize, end: usize)
+fn put_places(rt: &impl Print, words: &[u64], start: usize, end: usize)
     requires { (start ≤ end) × (end ≤ length words.now) }
 {
     let mut spaced = false;
-    let mut i = start;
-    while i < end {
+    for i in start..end {
         let word = words[i];
-        put_place(i - start, word, lent(i), spaced);
+        put_place(rt, i - start, word, lent(i), spaced);
         spaced = spaced | (word != 0);
-        i += 1;
     }
 }
 
-fn put_share(words: &[u64], start: usize, end: usize)
+fn put_share(rt: &impl Print, words: &[u64], start: usize, end: usize)
     requires { (start ≤ end) × (end ≤ length words.now) }
 {
-    put(b" ");
-    put_number((start / SHARE) as u64);
-    put(b"(");
-    put_places(words, start, end);
-    put(b")");
+    put(rt, b" ");
+    put_number(rt, (start / SHARE) as u64);
+    put(rt, b"(");
+    put_places(rt, words, start, end);
+    put(rt, b")");
 }
 
 // The words: how many stand in shares that hold what was lent, then the next share that does not, and so on.
-pub fn put_shares(words: &[u64]) {
+pub fn put_shares(rt: &impl Print, words: &[u64]) {
     let mut at = 0;
     while at < words.len() {
         let place = changed(words, at);
         if place == words.len() {
-            put_kept(place - at);
+            put_kept(rt, place - at);
             return;
         }
         let start = place - (place - at) % SHARE;
         let end = share_end(words.len(), start);
-        put_kept(start - at);
-        put_share(words, start, end);
+        put_kept(rt, start - at);
+        put_share(rt, words, start, end);
         at = end;
     }
 }

@@ -13,25 +13,21 @@ fn multiplied(h: u64) -> u64 {
 // One number that depends on every word: the sum FNV-1a, over words in place of bytes.
 fn digest(words: &[u64]) -> u64 {
     let mut h = 14695981039346656037;
-    let mut i = 0;
-    while i < words.len() {
-        h = multiplied(h ^ words[i]);
-        i += 1;
+    for word in words {
+        h = multiplied(h ^ *word);
     }
     h
 }
 
-pub fn put_digest(words: &[u64]) {
-    put(b" ");
-    put_hex(digest(words), 16);
+pub fn put_digest(rt: &impl Print, words: &[u64]) {
+    put(rt, b" ");
+    put_hex(rt, digest(words), 16);
 }
 
 // The bytes with nothing between.
-pub fn put_digits(bytes: &[u8]) {
-    put(b" ");
-    let mut i = 0;
-    while i < bytes.len() {
-        put_byte(bytes[i]);
-        i += 1;
+pub fn put_digits(rt: &impl Print, bytes: &[u8]) {
+    put(rt, b" ");
+    for byte in bytes {
+        put_byte(rt, *byte);
     }
 }

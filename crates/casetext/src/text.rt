@@ -21,23 +21,19 @@ pub fn first(text: &[u8], from: usize, byte: u8, wanted: bool) -> usize
     requires { from ≤ length text.now }
     ensures { (from ≤ result) × (result ≤ length text.now) }
 {
-    let mut i = from;
-    while i < text.len() {
+    for i in from..text.len() {
         if (text[i] == byte) == wanted {
             return i;
         }
-        i += 1;
     }
-    i
+    text.len()
 }
 
 // The last place that holds the byte; the length where there is none.
 pub fn last(text: &[u8], byte: u8) -> usize
     ensures { result ≤ length text.now }
 {
-    let mut i = text.len();
-    while i > 0 {
-        i -= 1;
+    for i in (0..text.len()).rev() {
         if text[i] == byte {
             return i;
         }
@@ -52,14 +48,12 @@ pub fn after(text: &[u8], word: &[u8]) -> usize
     if text.len() < word.len() {
         return 0;
     }
-    let mut i = 0;
-    while i < word.len() {
+    for i in 0..word.len() {
         if text[i] != word[i] {
             return 0;
         }
-        i += 1;
     }
-    i
+    word.len()
 }
 
 // The value of a hexadecimal digit; 16 for any other byte.
@@ -84,9 +78,8 @@ pub fn numeral(text: &[u8], base: usize) -> Number
         return bad;
     }
     let mut value: usize = 0;
-    let mut i = 0;
-    while i < text.len() {
-        let d = digit(text[i]) as usize;
+    for byte in text {
+        let d = digit(*byte) as usize;
         if d >= base {
             return bad;
         }
@@ -94,7 +87,6 @@ pub fn numeral(text: &[u8], base: usize) -> Number
             return bad;
         }
         value = value * base + d;
-        i += 1;
     }
     Number { value, good: true }
 }

@@ -2,6 +2,6 @@
 // `casebook`.
 #![tactic(auto)]
 
-fn main() {
-    casebook::run(true);
+fn main(rt: HostRuntime) {
+    casebook::run(&rt, true);
 }

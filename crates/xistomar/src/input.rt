@@ -1,7 +1,7 @@
 // Taking bytes from standard input.
 ghost use Rattle.std.specs.Prelude.{◌≤◌, length};
 
-use libc::STDIN_FILENO;
+use std::io::Read;
 
 // How many bytes were taken, where no read failed.
 #[derive(Clone, Copy)]
@@ -11,19 +11,18 @@ pub struct Taken {
 }
 
 // Takes bytes until there is no room for more or the input ends.
-pub fn take(out: &mut [u8]) -> Taken
+pub fn take(rt: &impl Input, out: &mut [u8]) -> Taken
     ensures { result.count ≤ length out.new }
 {
+    let mut input = rt.reader();
     let mut done = 0;
     while done < out.len() {
-        let got = libc::read(STDIN_FILENO, &mut out[done..]);
-        if got < 0 {
+        let Ok(more) = input.read(&mut out[done..]) else {
             return Taken {
                 count: 0,
                 good: false,
             };
-        }
-        let more = io::count(got, &out[done..]);
+        };
         if more == 0 {
             return Taken {
                 count: done,

@@ -5,17 +5,16 @@
 mod input;
 
 use input::take;
-use libc::STDOUT_FILENO;
 
 // Where the input fails there is nothing to answer, and where the output fails nobody to tell: either way the program ends.
-fn main() {
+fn main(rt: HostRuntime) {
     let mut bytes = [0u8; line::ENOUGH];
-    let taken = take(&mut bytes);
+    let taken = take(&rt, &mut bytes);
     let count = taken.count;
     if !taken.good {
         return;
     }
     let mut line = [0u8; line::LONGEST_LINE];
     let length = line::answer(&bytes[..count], &mut line);
-    io::write_all(STDOUT_FILENO, &line[..length]);
+    let _ = rt.write_all(&line[..length]);
 }
