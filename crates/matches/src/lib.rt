@@ -39,8 +39,8 @@ fn ends_from(words: &[u64], s: PositionSet, n: usize) -> PositionSet
 // The ends of the matches of row b that are not empty, from each start up to n: taken once for all the walks along them.
 pub fn longer_words(rows: &[u64], b: usize, n: usize, out: &mut [u64])
     requires { HasRow (length rows.now) b × (n ≤ longest) × (n < length out.old) }
-    ensures by_index { (m : ℕ) → m ≤ n → Is (get_or out.new m 0) (longer rows.now b m) }
-    ensures by_index_2 { (m : ℕ) → n < m → get_or out.new m 0 ≡ get_or out.old m 0 }
+    ensures taken { (m : ℕ) → m ≤ n → Is (get_or out.new m 0) (longer rows.now b m) }
+    ensures later_stay { (m : ℕ) → n < m → get_or out.new m 0 ≡ get_or out.old m 0 }
 {
     let mut m: usize = 0;
     while m <= n {
@@ -64,8 +64,8 @@ pub fn then_from(rows: &[u64], n: usize, a: usize, b: usize, i: usize) -> Found
 
 // The ends of the second match, `second`, from each last letter of the first.
 pub fn fused_from(rows: &[u64], second: &[u64], n: usize, a: usize, b: usize, i: usize) -> Found
-    requires has_row { HasRow (length rows.now) a × HasRow (length rows.now) b × (n ≤ longest) × (i ≤ n) × (n < length second.now) }
-    requires by_index { (m : ℕ) → m ≤ n → Is (get_or second.now m 0) (longer rows.now b m) }
+    requires there { HasRow (length rows.now) a × HasRow (length rows.now) b × (n ≤ longest) × (i ≤ n) × (n < length second.now) }
+    requires second_taken { (m : ℕ) → m ≤ n → Is (get_or second.now m 0) (longer rows.now b m) }
     ensures { Finds rows.now n (SequenceOp.Fused a b) i result }
 {
     let shared = last_letters(rows, a, i);
@@ -77,7 +77,7 @@ pub fn fused_from(rows: &[u64], second: &[u64], n: usize, a: usize, b: usize, i:
 
 // The same along words that chain, where `chain` says so: what is left adds nothing once all of it is reached.
 fn ends_along(words: &[u64], s: PositionSet, n: usize, chain: bool) -> PositionSet
-    requires n_in_bounds { (n < length words.now) × (n ≤ longest) }
+    requires there { (n < length words.now) × (n ≤ longest) }
     requires chains { chain ≡ true → Chains (has s.bits) (λ m j. has (get_or words.now m 0) j) n }
     ensures { Is result.bits (reached (has s.bits) (λ m j. has (get_or words.now m 0) j) n) }
 {
@@ -110,8 +110,8 @@ pub fn leads_forward(rows: &[u64], a: usize, n: usize) -> bool
 // One match from i, or one that is not empty and then those from its end, which `own`, the node's words above i, has already; they chain
 // where `forward`, as no match of row a then leads back.
 pub fn repeat_from(rows: &[u64], own: &[u64], n: usize, a: usize, i: usize, forward: bool) -> Found
-    requires has_row { HasRow (length rows.now) a × (n ≤ longest) × (i ≤ n) × (share ≤ length own.now) }
-    requires by_index { (m : ℕ) → i < m → m ≤ n → Is (get_or own.now m 0) (sequence_bit rows.now n (SequenceOp.Repeat a) m) }
+    requires there { HasRow (length rows.now) a × (n ≤ longest) × (i ≤ n) × (share ≤ length own.now) }
+    requires own_made { (m : ℕ) → i < m → m ≤ n → Is (get_or own.now m 0) (sequence_bit rows.now n (SequenceOp.Repeat a) m) }
     requires forward { forward ≡ true → Forward rows.now a n }
     ensures { Finds rows.now n (SequenceOp.Repeat a) i result }
 {

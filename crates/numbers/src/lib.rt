@@ -43,7 +43,7 @@ pub fn length_under(clock: u8, block: u8) -> usize
 pub fn counts_of(b: &[u8], n: usize, clocks: &[u8]) -> Counts
     requires { Timed b.now clocks.now × (n ≡ count b.now) }
     ensures counts_of { CountsOf b.now clocks.now result }
-    ensures booleans_bound { (result.booleans ≤ 14 * n) × (result.all ≤ 14 * n) }
+    ensures bounds { (result.booleans ≤ 14 * n) × (result.all ≤ 14 * n) }
 {
     let mut booleans: usize = 0;
     let mut all: usize = 0;

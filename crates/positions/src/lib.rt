@@ -196,8 +196,8 @@ impl PositionSet {
     // The set without its lowest place l: the set is not empty.
     pub fn rest(self) -> Self
         requires { 0 < self.bits }
-        ensures by_index { (l : ℕ) → Lowest 64 self.bits l → Is result.bits (λ k. has self.bits k && not (eqb k l)) }
-        ensures bits_lt_bits { result.bits < self.bits }
+        ensures without_lowest { (l : ℕ) → Lowest 64 self.bits l → Is result.bits (λ k. has self.bits k && not (eqb k l)) }
+        ensures smaller { result.bits < self.bits }
     {
         Self {
             bits: self.bits & (self.bits - 1),

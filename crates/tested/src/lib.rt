@@ -95,7 +95,7 @@ fn property_set(
     op: PropertyOp,
 ) -> PositionSet
     requires property_there { property_there (length rows.now) (standing numbers.now clock v) op × (n ≤ longest) }
-    requires numbers_len { (length numbers.now ≡ 121) × (length sets.now ≡ 121) }
+    requires lengths { (length numbers.now ≡ 121) × (length sets.now ≡ 121) }
     ensures { Is result.bits (property_tested rows.now n (standing numbers.now clock v) (set_of sets.now v.x) (set_of sets.now v.y) op) }
 {
     let x = v.x;
@@ -155,7 +155,7 @@ fn letter_set(rows: &[u64], numbers: &[u8], clock: u8, v: Raw, op: SequenceOp) -
 // The set of the node v; a boolean has none.
 fn node_set(rows: &[u64], n: usize, numbers: &[u8], sets: &[u64], clock: u8, v: Raw) -> PositionSet
     requires node_there { node_there (length rows.now) (standing numbers.now clock v) (node_of v) × (n ≤ longest) }
-    requires numbers_len { (length numbers.now ≡ 121) × (length sets.now ≡ 121) }
+    requires lengths { (length numbers.now ≡ 121) × (length sets.now ≡ 121) }
     ensures { Is result.bits (node_tested rows.now n (standing numbers.now clock v) (set_of sets.now v.x) (set_of sets.now v.y) (node_of v)) }
 {
     let node = decode(v);

@@ -72,7 +72,7 @@ fn put_pass(
     from: usize,
 )
     requires numbered { Numbered b.now clocks.now numbers.now × (n ≡ count b.now) }
-    requires from_value { (from ≡ pass_start b.now (clock_by clocks.now) pass) × TableFits (new_count b.now (clock_by clocks.now)) out.old }
+    requires begins { (from ≡ pass_start b.now (clock_by clocks.now) pass) × TableFits (new_count b.now (clock_by clocks.now)) out.old }
     ensures { out.new ≡ put_nodes out.old from (given_below b.now clocks.now pass n) }
 {
     let mut at = from;
