@@ -1,34 +1,23 @@
--- Laws of a block as the code makes it, node by node: from the operator, the clock as a byte and new numbers. Assumes nothing.
+-- Laws of a block as the code makes it, node by node: from the operator and new numbers. Assumes nothing.
 use native.Mathlib.Omega.{arith}
 use borrow.Author.Tests.{ne_eqb}
 use mathlib.Core.Path.{◌≡◌, refl, ◌∙◌, sym}
 use mathlib.Core.List.{List, [], ◌∷◌, map}
-use Prim.Native.Nat.{ℕ, zero, suc, ◌<◌, ◌≤◌}
+use Prim.Native.Nat.{ℕ, zero, suc, ◌<◌}
 use lib.ListN.{length, get_or, get_or-map}
 use Rattle.nodes.specs.declared.Raw.{Raw}
 use Rattle.nodes.specs.declared.Node.{Node}
 use Rattle.nodes.specs.Operators.{bytes, bytes_of}
-use Rattle.clocks.specs.Computed.{ref_of}
 use Rattle.blocks.specs.Blocks.{letter_block, next_block, until_block, under_block}
 use Rattle.encoding.specs.Encoding.{blank, blank_node}
-use Rattle.blocks.specs.Computed.{kind_block}
 
 -- ---- a block's node i
-
--- i is none of the n numbers below n, as the last arm of a match has it
-abbrev pub NotBelow : ℕ → ℕ → Type 0
-NotBelow zero i = Unit {0}
-NotBelow (suc n) i = NotBelow n i × (i ≡ n → ⊥)
-
-pub not_below : (n i : ℕ) → NotBelow n i → n ≤ i
-not_below zero i h = omega arith
-not_below (suc n) i h = let l = not_below n i h.0 in let e = h.1 in omega arith
 
 of_bytes : (vs : List Node) (i : ℕ) → get_or (map bytes_of vs) i blank ≡ bytes_of (get_or vs i blank_node)
 of_bytes vs i = get_or-map bytes_of vs i blank_node
 
 -- a block of one node
-alone : (v : Raw) (i : ℕ) → i < 1 → get_or (v ∷ []) i blank ≡ v
+pub alone : (v : Raw) (i : ℕ) → i < 1 → get_or (v ∷ []) i blank ≡ v
 alone v zero h = refl
 alone v (suc i) h = absurd (let w : ⊥ = omega arith in w)
 
@@ -68,18 +57,3 @@ module _ (at c op x y i : ℕ) (l : i < length (under_block at c op x y)) where
     of_other d q =
         let m = rw (ne_eqb op 16 d.0.0.1, ne_eqb op 38 d.0.1, ne_eqb op 39 d.1) at l in
         rw (ne_eqb op 16 d.0.0.1, ne_eqb op 38 d.0.1, ne_eqb op 39 d.1) (q ∙ sym (alone (bytes op x y) i m))
-
--- under any clock or none
-module _ (clock at c op x y i : ℕ) (l : i < length (kind_block (ref_of clock) at c op x y)) (r : Raw) where
-  pub of_free : clock ≡ 255 → r ≡ bytes op x y → r ≡ get_or (kind_block (ref_of clock) at c op x y) i blank
-  unfolding kind_block ref_of
-  of_free e q = rw e (q ∙ sym (alone (bytes op x y) i (rw e at l)))
-
-  module _ (e : clock ≡ 255 → ⊥) where
-    pub in_under : i < length (under_block at c op x y)
-    unfolding kind_block ref_of
-    in_under = rw (ne_eqb clock 255 e) at l
-
-    pub of_under : r ≡ get_or (under_block at c op x y) i blank → r ≡ get_or (kind_block (ref_of clock) at c op x y) i blank
-    unfolding kind_block ref_of
-    of_under q = rw (ne_eqb clock 255 e) q

@@ -4,12 +4,10 @@
 
 ghost use Rattle.std.specs.Prelude.{◌≡◌, ◌<◌, ◌≤◌, length, get_or};
 ghost use Rattle.nodes.specs.Operators.{bytes, bytes_of};
-ghost use Rattle.clocks.specs.Computed.{ref_of};
 ghost use Rattle.blocks.specs.Blocks.{letter_block, next_block, until_block, under_block};
 ghost use Rattle.encoding.specs.Encoding.{blank, blank_node};
 ghost use Rattle.blocks.specs.Computed.{kind_block};
 
-use clocks::UNCLOCKED;
 use nodes::Raw;
 
 // The four bytes of op(x, y).
@@ -99,13 +97,14 @@ fn under_node(at: u8, c: u8, op: u8, x: u8, y: u8, i: usize) -> Raw
     }
 }
 
-// Node i of the block of op(x, y), which is no clock node: with no clock it is one node.
-pub fn block_node(clock: u8, at: u8, c: u8, op: u8, x: u8, y: u8, i: usize) -> Raw
-    requires { (at ≤ 120) × (i < length (kind_block (ref_of clock) at c op x y)) }
-    ensures { result ≡ get_or (kind_block (ref_of clock) at c op x y) i blank }
+// Node i of the block of op(x, y), which is no clock node, under the condition c: with no clock it is one node.
+#[tactic(auto, using(crate::proofs::Making::alone), unfolding(crate::specs::Computed::kind_block))]
+pub fn block_node(c: Option<u8>, at: u8, op: u8, x: u8, y: u8, i: usize) -> Raw
+    requires { (at ≤ 120) × (i < length (kind_block c at op x y)) }
+    ensures { result ≡ get_or (kind_block c at op x y) i blank }
 {
-    if clock == UNCLOCKED {
-        return node(op, x, y);
+    match c {
+        None => node(op, x, y),
+        Some(c) => under_node(at, c, op, x, y, i),
     }
-    under_node(at, c, op, x, y, i)
 }

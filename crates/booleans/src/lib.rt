@@ -7,22 +7,19 @@ ghost use Rattle.cells.specs.Shares.{longest, HasWords};
 ghost use Rattle.cells.specs.Bits.{signal_bit, risen_bit, fallen_bit, operand_bit, value_bit};
 ghost use Rattle.cells.specs.Ready.{ready_boolean};
 
-use cells::all_samples;
+use cells::{Span, all_samples};
 use nodes::BooleanOp;
 use positions::PositionSet;
 
 // The samples that have the signal s.
+#[tactic(auto, using(cells::proofs::Loops::taken_none, cells::proofs::Loops::taken_more))]
 fn signal_set(samples: &[u64], s: usize) -> PositionSet
     requires { (length samples.now ≤ longest) × (s < 64) }
     ensures { Is result.bits (signal_bit samples.now s) }
 {
-    let n = samples.len();
     let mut out = PositionSet::empty();
-    let mut k: usize = 0;
-    while k < n {
-        let sample = PositionSet { bits: samples[k] };
-        out = out.with_if(k, sample.has(s));
-        k += 1;
+    for (k, &bits) in samples.iter().enumerate() {
+        out = out.with_if(k, PositionSet { bits }.has(s));
     }
     out
 }
@@ -42,7 +39,8 @@ fn fallen_set(samples: &[u64], s: usize) -> PositionSet
     ensures { Is result.bits (fallen_bit samples.now s) }
 {
     let high = signal_set(samples, s);
-    all_samples(samples.len()).without(high).common(high.up())
+    let span = Span { n: samples.len() };
+    all_samples(span).without(high).common(high.up())
 }
 
 // The samples that satisfy boolean a: the first of the `stride` words that each node has.
@@ -60,10 +58,11 @@ pub fn boolean_set(words: &[u64], stride: usize, samples: &[u64], op: BooleanOp)
     requires { (1 ≤ stride) × ready_boolean (length words.now) stride op × (length samples.now ≤ longest) }
     ensures { Is result.bits (value_bit (operand_bit words.now stride) samples.now op) }
 {
+    let span = Span { n: samples.len() };
     match op {
-        BooleanOp::Constant(v) => all_samples(samples.len()).only_if(v == 1),
+        BooleanOp::Constant(v) => all_samples(span).only_if(v == 1),
         BooleanOp::Signal(s) => signal_set(samples, s),
-        BooleanOp::Not(a) => all_samples(samples.len()).without(set_of(words, stride, a)),
+        BooleanOp::Not(a) => all_samples(span).without(set_of(words, stride, a)),
         BooleanOp::And(a, b) => set_of(words, stride, a).common(set_of(words, stride, b)),
         BooleanOp::Or(a, b) => set_of(words, stride, a).joined(set_of(words, stride, b)),
         BooleanOp::Risen(s) => risen_set(samples, s),

@@ -19,7 +19,7 @@ use Rattle.plain.specs.Judges as Plain
 use Rattle.agreed.proofs.Agreement as Agreed
 use Rattle.calls.specs.Refusals.{judge_refusals, plain_refusals}
 use Rattle.calls.specs.Judges.{Judges, PlainJudges}
-use Rattle.calls.proofs.Taking.{Opened, expanded}
+use Rattle.calls.specs.Taken.{Opened, expanded}
 use Rattle.calls.proofs.Carrying.{plain_opened, judge_taken, plain_taken}
 use Rattle.calls.proofs.Unique.{plain_singles}
 

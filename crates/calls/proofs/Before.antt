@@ -18,7 +18,7 @@ use Rattle.plain.specs.Judges as Plain
 use Rattle.plain.proofs.Demands as PlainDemands
 use Rattle.calls.specs.Rewrites.{Rewrites}
 use Rattle.calls.specs.Judges.{Judges, EndsMatches, PlainJudges}
-use Rattle.calls.proofs.Taking.{as_it_is}
+use Rattle.calls.specs.Taken.{as_it_is}
 use Rattle.calls.proofs.Carrying.{rewrite_taken, judge_taken, ends_taken, plain_taken}
 
 module _ (s : List ℕ) (old : ¬ (version s ≡ 3)) where

@@ -25,7 +25,8 @@ use Rattle.plain.specs.Judges as Plain
 use Rattle.calls.specs.Refusals.{rewrite_refusals, judge_refusals, ends_refusals, plain_refusals}
 use Rattle.calls.specs.Rewrites.{Rewrites}
 use Rattle.calls.specs.Judges.{Judged, Judges, Ended, EndsMatches, PlainJudges}
-use Rattle.calls.proofs.Taking.{Opened, Taken, same_property, same_sequence, taken_is, taken_answers, call_opened}
+use Rattle.calls.specs.Taken.{Opened, Taken}
+use Rattle.calls.proofs.Taking.{same_property, same_sequence, taken_is, taken_answers, call_opened}
 
 -- ---- verdicts
 

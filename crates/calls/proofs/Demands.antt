@@ -30,7 +30,8 @@ use Rattle.judge.specs.Judges as Base
 use Rattle.judge.proofs.Demands as Judge
 use Rattle.calls.specs.Refusals.{judge_refusals, ends_refusals}
 use Rattle.calls.specs.Judges.{Judges, EndsMatches}
-use Rattle.calls.proofs.Taking.{Opened, expanded, same_property, same_sequence, rewritten_taken}
+use Rattle.calls.specs.Taken.{Opened, expanded}
+use Rattle.calls.proofs.Taking.{same_property, same_sequence, rewritten_taken}
 use Rattle.calls.proofs.Carrying.{judge_opened, ends_opened, judge_taken, ends_taken}
 use Rattle.calls.proofs.Unique.{judge_singles, ends_singles}
 

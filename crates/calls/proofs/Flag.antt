@@ -26,7 +26,8 @@ use Rattle.nodes.proofs.Shapes.{down}
 use Rattle.table.specs.Trees.{PropertyAt, p_strong, p_weak, p_neg, p_either, p_both, p_imp, p_next, p_until, p_clock, p_implies_next, p_followed, p_followed_next, p_always, p_eventually, p_strong_until, p_strong_next, RootP}
 use Rattle.judgement.specs.declared.Judgement.{Judgement}
 use Rattle.calls.specs.Judges.{Judges, PlainJudges}
-use Rattle.calls.proofs.Taking.{Opened, built}
+use Rattle.calls.specs.Taken.{Opened}
+use Rattle.calls.proofs.Taking.{built}
 use Rattle.calls.proofs.Carrying.{judge_opened, plain_opened}
 use Rattle.calls.proofs.Demands.{tested_meant}
 use Rattle.calls.proofs.PlainDemands.{plain_tested_meant}

@@ -29,7 +29,8 @@ use Rattle.plain.proofs.Demands as Plain
 use Rattle.agreed.proofs.Rewritten as Rewritten
 use Rattle.calls.specs.Refusals.{plain_refusals}
 use Rattle.calls.specs.Judges.{PlainJudges}
-use Rattle.calls.proofs.Taking.{Opened, expanded, same_property, rewritten_taken}
+use Rattle.calls.specs.Taken.{Opened, expanded}
+use Rattle.calls.proofs.Taking.{same_property, rewritten_taken}
 use Rattle.calls.proofs.Carrying.{plain_opened, plain_taken}
 use Rattle.calls.proofs.Unique.{plain_singles}
 

@@ -1,4 +1,5 @@
--- What rewriting leaves in the first 6 + 4m bytes lent, where it accepts: the table that the expansion is rewritten to, which says what s says. Assumes nothing.
+-- What rewriting leaves in the first 6 + 4m bytes lent, where it accepts: the table that the expansion is rewritten to, which says what s says.
+-- Assumes nothing.
 use mathlib.Core.Path.{◌≡◌}
 use mathlib.Core.Logic.{◌↔◌}
 use mathlib.Core.List.{List}
@@ -17,7 +18,8 @@ use Rattle.rewrite.specs.Rewrites as Base
 use Rattle.rewrite.specs.Keeps.{Keeps}
 use Rattle.rewrite.proofs.Theorems as Rewrite
 use Rattle.calls.specs.Rewrites.{Rewrites}
-use Rattle.calls.proofs.Taking.{Opened, expanded, same_property, same_sequence}
+use Rattle.calls.specs.Taken.{Opened, expanded}
+use Rattle.calls.proofs.Taking.{same_property, same_sequence}
 use Rattle.calls.proofs.Carrying.{rewrite_opened, rewrite_taken}
 
 module _ (s d : List ℕ) (r : Rewriting) (d' : List ℕ) (w : Rewrites s d r d') (z : r.verdict.number ≡ 0) where

@@ -33,20 +33,7 @@ use Rattle.expansion.proofs.Theorems.{expansion-sequence, expansion-property, ex
 use Rattle.clocks.specs.Clocks.{Clocks}
 use Rattle.writing.specs.Tables.{new_table}
 use Rattle.rewrite.proofs.Theorems.{rewriting_keeps}
-
--- a table that is as long as a table is, and not of version 3
-abbrev pub Older : List ℕ → Type 0
-Older s = 6 ≤ length s → ¬ (version s ≡ 3)
-
--- an accepted table whose expansion is not too large
-pub record Opened (s : List ℕ) : Type 0 where
-  pub checks : ChecksTo newest s accepted
-  pub few : expanded_count s ≤ 120
-
--- t is what the base calls are given for s
-pub data Taken (s : List ℕ) : List ℕ → Type 0 where
-  as_it_is : Older s → Taken s s
-  expanded : Opened s → Taken s (expansion s)
+use Rattle.calls.specs.Taken.{Older, Opened, Taken, as_it_is, expanded}
 
 -- ---- the root of a table stands for a sequence or for a property
 

@@ -19,7 +19,7 @@ use Rattle.plain.proofs.Unique as Plain
 use Rattle.calls.specs.Refusals.{rewrite_refusals, judge_refusals, ends_refusals, plain_refusals}
 use Rattle.calls.specs.Rewrites.{Rewrites}
 use Rattle.calls.specs.Judges.{Judges, EndsMatches, PlainJudges}
-use Rattle.calls.proofs.Taking.{expanded}
+use Rattle.calls.specs.Taken.{expanded}
 use Rattle.calls.proofs.Carrying.{rewrite_opened, judge_opened, ends_opened, plain_opened, rewrite_taken, judge_taken, ends_taken, plain_taken}
 
 -- ---- verdicts

@@ -1,154 +1,102 @@
-// The cases of both judges and of match ends: a table, samples, and for the judge and match ends the words that are lent. A function that answers a bool answers whether the line is a case.
+// The cases of both judges and of match ends: a table, samples, and for the judge and match ends the words that are lent.
 use calls::{judge, match_ends, plain_judge};
-use casetext::{answers, lists, shares, text};
-use refusal::Verdict;
+use casetext::lent::lend;
+use casetext::print::Printer;
+use casetext::text::NoCase;
+use casetext::{answers, lists, text};
+use judge::MatchEnds;
+use judgement::Judgement;
 
-// What is asked: the judge, or the match ends from a start.
-#[derive(Clone, Copy)]
-enum Question {
-    Level,
-    Ends(usize),
+// The most samples, and the most words: 120 shares of 65, and one share more.
+const SAMPLES: usize = 100;
+
+const WORDS: usize = 7865;
+
+// Runs a case on the samples that the list has.
+pub fn run(
+    out: &Printer<impl Print>,
+    name: &[u8],
+    text: &[u8],
+    table: &[u8],
+    list: &[u8],
+) -> Result<(), NoCase> {
+    let mut space = [0; SAMPLES];
+    let samples = lists::numbers(list, &(1..=16), &mut space)?;
+    match name {
+        b"judge" => run_judge(out, text, table, samples),
+        b"ends" => run_ends(out, text, table, samples),
+        b"plain" => {
+            put_plain(out, text, plain_judge(table, samples));
+            Ok(())
+        }
+        _ => Err(NoCase),
+    }
 }
 
-// Runs a case on the samples that the text lists.
-pub fn run(rt: &impl Print, head: &[u8], table: &[u8], text: &[u8], short: bool) -> bool {
-    let mut space = [0u64; 100];
-    let samples = lists::numbers(text, 1, 16, &mut space);
-    let count = samples.count;
-    if !samples.good {
-        return false;
-    }
-    call(rt, head, table, &space[0..count], short)
-}
-
-// Asks what the head says.
-fn call(rt: &impl Print, head: &[u8], table: &[u8], samples: &[u64], short: bool) -> bool {
-    let size = text::after(head, b"judge ");
-    if size > 0 {
-        return lend(rt, &head[size..], table, samples, Question::Level, short);
-    }
-    let start = text::after(head, b"ends ");
-    if start > 0 {
-        return begin(rt, &head[start..], table, samples, short);
-    }
-    let label = text::after(head, b"plain ");
-    if label > 0 {
-        let got = plain_judge(table, samples);
-        answers::plain(
-            rt,
-            &head[label..],
-            got.verdict,
-            got.level.number,
-            got.tested,
-        );
-        return true;
-    }
-    false
-}
-
-// Asks for the match ends from the start that the text, two numbers and a label, begins with.
-fn begin(rt: &impl Print, text: &[u8], table: &[u8], samples: &[u64], short: bool) -> bool {
-    let start = text::opening(text, usize::MAX);
-    let size = start.rest;
-    if !start.good {
-        return false;
-    }
-    lend(
-        rt,
-        &text[size..],
-        table,
-        samples,
-        Question::Ends(start.value),
-        short,
-    )
-}
-
-// Lends as many words as the text, a number and a label, begins with.
-fn lend(
-    rt: &impl Print,
+// Asks the judge, with as many words as the text, a number and a label, begins with. They are printed whole, so that those left alone are seen.
+fn run_judge(
+    out: &Printer<impl Print>,
     text: &[u8],
     table: &[u8],
     samples: &[u64],
-    question: Question,
-    short: bool,
-) -> bool {
-    let asked = text::opening(text, 7865);
-    let lent = asked.value;
-    let label = asked.rest;
-    if !asked.good {
-        return false;
+) -> Result<(), NoCase> {
+    let (size, label) = text::opening(text)?;
+    let mut space = [0; WORDS];
+    let words = lend(&mut space, size)?;
+    let got = judge(table, samples, words);
+    put_judgement(out, label, got);
+    answers::put_lent(out, words);
+    if answers::accepted(got.verdict) {
+        put_other(out, label, got, plain_judge(table, samples));
     }
-    let mut words = [0u64; 7865];
-    ask(
-        rt,
-        &text[label..],
-        table,
-        samples,
-        question,
-        &mut words[0..lent],
-        short,
+    Ok(())
+}
+
+// Asks for the match ends from the start that the text, two numbers and a label, begins with; the second is how many words are lent.
+fn run_ends(
+    out: &Printer<impl Print>,
+    text: &[u8],
+    table: &[u8],
+    samples: &[u64],
+) -> Result<(), NoCase> {
+    let (start, text) = text::opening(text)?;
+    let (size, label) = text::opening(text)?;
+    let mut space = [0; WORDS];
+    let words = lend(&mut space, size)?;
+    put_ends(out, label, match_ends(table, samples, start, words));
+    answers::put_lent(out, words);
+    Ok(())
+}
+
+// What either judge says.
+fn put_judgement(out: &Printer<impl Print>, label: &[u8], got: Judgement) {
+    answers::put_judged(out, label, got.verdict);
+    print!(out;
+        "level {} tested {}",
+        got.level.number,
+        answers::yes_or_no(got.tested)
     );
-    true
 }
 
-// The words are printed whole, so that those left alone are seen.
-fn ask(
-    rt: &impl Print,
-    label: &[u8],
-    table: &[u8],
-    samples: &[u64],
-    question: Question,
-    words: &mut [u64],
-    short: bool,
-) {
-    shares::fill(words);
-    match question {
-        Question::Level => {
-            let got = judge(table, samples, words);
-            answers::judgement(
-                rt,
-                label,
-                got.verdict,
-                got.level.number,
-                got.tested,
-                words,
-                short,
-            );
-            beside(
-                rt,
-                label,
-                table,
-                samples,
-                got.verdict,
-                got.level.number,
-                got.tested,
-            );
-        }
-        Question::Ends(start) => {
-            let got = match_ends(table, samples, start, words);
-            answers::ends(rt, label, got.verdict, got.mask.bits, got.top, words, short);
-        }
-    }
+// What match ends answered.
+fn put_ends(out: &Printer<impl Print>, label: &[u8], got: MatchEnds) {
+    answers::put_judged(out, label, got.verdict);
+    print!(out;
+        "ends {:x} top {}",
+        got.mask.bits,
+        answers::yes_or_no(got.top)
+    );
 }
 
-// Where the judge accepts, the plain judge has to say the same. An answer of it that differs is printed on a line of its own, so that it is seen.
-fn beside(
-    rt: &impl Print,
-    label: &[u8],
-    table: &[u8],
-    samples: &[u64],
-    v: Verdict,
-    level: u8,
-    tested: bool,
-) {
-    if !answers::accepted(v) {
-        return;
-    }
-    let got = plain_judge(table, samples);
-    let same = answers::accepted(got.verdict)
-        & (got.level.number == level)
-        & (got.tested == tested);
-    if !same {
-        answers::plain(rt, label, got.verdict, got.level.number, got.tested);
+// What the plain judge answered, to which nothing is lent.
+fn put_plain(out: &Printer<impl Print>, label: &[u8], got: Judgement) {
+    put_judgement(out, label, got);
+    out.print("\n");
+}
+
+// What the plain judge says of a case that the judge accepts has to be the same: where it is not, it is printed on a line of its own, so that it is seen.
+fn put_other(out: &Printer<impl Print>, label: &[u8], judged: Judgement, plain: Judgement) {
+    if plain != judged {
+        put_plain(out, label, plain);
     }
 }

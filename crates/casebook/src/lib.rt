@@ -14,10 +14,10 @@
 // are lent to `read`, and K bytes, 500 at most and the one at place i holding 128 + i % 127, to `expand` and `rewrite`. The bytes of `program` are its whole
 // input, and the line that it answers is printed.
 //
-// The samples of `judge`, `plain` and `ends` stand after a slash, 100 at most: each has 1 to 16 hexadecimal digits, and `*N` repeats it. To `judge` and `ends` W
-// words, 7,865 at most (120 shares of 65, and one share more) and the one at place i holding 0xE700000000000000 + i, are lent. The match ends are one number: bit k
-// is end k. START is a decimal number. `plain` asks the plain judge, to which nothing is lent. It is also asked of each case of `judge` that is accepted, and where
-// it says anything else, that is printed on one more line.
+// The samples of `judge`, `plain` and `ends` stand after a slash, 100 at most: each has 1 to 16 hexadecimal digits, and `*N` repeats it. To `judge` and
+// `ends` W words, 7,865 at most (120 shares of 65, and one share more) and the one at place i holding 0xE700000000000000 + i, are lent. The match ends are
+// one number: bit k is end k. START is a decimal number. `plain` asks the plain judge, to which nothing is lent. It is also asked of each case of `judge`
+// that is accepted, and where it says anything else, that is printed on one more line.
 //
 // All that was lent is printed, in full or in short. In full, of the bytes `kept*N` is N that hold what they held, 3(1,0) a node with its operator, x and y,
 // and two digits any other byte. The words of `judge` and `ends` are printed share by share: `kept*N` is N words of shares that hold what they held, and 1(0:2
@@ -32,21 +32,23 @@ mod judging;
 mod lines;
 mod tables;
 
-use lines::Held;
+use casetext::print::Printer;
+use lines::Line;
+use std::io::Read;
 
-// Runs all cases; `short` is whether what was lent is printed in short. A proved loop has to end, and nothing says that the input does: there are as many turns
-// as no run uses up.
+// Runs all cases; `short` is whether what was lent is printed in short. Where nothing comes, or the read fails, the line that is kept is the last. A proved
+// loop has to end, and nothing says that the input does: there are as many turns as no run uses up.
 pub fn run(rt: &(impl Input + Print), short: bool) {
+    let out = Printer::new(rt, short);
     let mut input = rt.reader();
-    let mut line = [0u8; 8193];
-    let mut held = Held {
-        len: 0,
-        going: true,
-    };
+    let mut line = Line::new();
+    let mut piece = [0; 4096];
     for _ in 0..u64::MAX {
-        if !held.going {
+        let count = input.read(&mut piece).unwrap_or(0);
+        if count == 0 {
+            line.end(&out);
             return;
         }
-        held = lines::take_piece(rt, &mut input, &mut line, held.len, short);
+        line.take(&out, &piece[..count]);
     }
 }

@@ -1,65 +1,52 @@
 // Taking lines from standard input, piece by piece.
 use crate::case;
 use casetext::answers;
-use std::io::Read;
+use casetext::print::Printer;
 
-// How many bytes of the present line are kept, and whether there is more to read.
-#[derive(Clone, Copy)]
-pub struct Held {
-    pub len: usize,
-    pub going: bool,
-}
+// The most bytes of a line, and one more.
+const ROOM: usize = 8193;
 
-// Reads once and runs the lines that end in what came. Where nothing comes, or the read fails, the line that is kept is the last.
-pub fn take_piece(
-    rt: &impl Print,
-    input: &mut impl Read,
-    line: &mut [u8; 8193],
+// The line that is being read: its bytes so far, as many as there is room for.
+#[derive(Drop)]
+pub struct Line {
+    bytes: [u8; ROOM],
     len: usize,
-    short: bool,
-) -> Held {
-    let mut piece = [0u8; 4096];
-    let count = input.read(&mut piece).unwrap_or(0);
-    if count == 0 {
-        end_line(rt, line, len, short);
-        return Held {
+}
+
+impl Line {
+    pub fn new() -> Line {
+        Line {
+            bytes: [0; ROOM],
             len: 0,
-            going: false,
-        };
+        }
     }
-    Held {
-        len: take_bytes(rt, line, len, &piece[..count], short),
-        going: true,
-    }
-}
 
-// Takes a piece byte by byte; how many bytes are kept then.
-fn take_bytes(rt: &impl Print, line: &mut [u8], before: usize, piece: &[u8], short: bool) -> usize {
-    let mut len = before;
-    for byte in piece {
-        len = take_byte(rt, line, len, *byte, short);
+    // Takes a piece of the input.
+    pub fn take(&mut self, out: &Printer<impl Print>, piece: &[u8]) {
+        for byte in piece {
+            if *byte == b'\n' {
+                self.end(out);
+            } else {
+                self.push(*byte);
+            }
+        }
     }
-    len
-}
 
-// Runs the line at its end, and until then keeps each byte for which there is room.
-fn take_byte(rt: &impl Print, line: &mut [u8], len: usize, byte: u8, short: bool) -> usize {
-    if byte == b'\n' {
-        end_line(rt, line, len, short);
-        return 0;
+    // Keeps the byte, where there is room for it.
+    fn push(&mut self, byte: u8) {
+        if let Some(place) = self.bytes.get_mut(self.len) {
+            *place = byte;
+            self.len += 1;
+        }
     }
-    if len < line.len() {
-        line[len] = byte;
-        return len + 1;
-    }
-    len
-}
 
-// Runs a line that has ended. One that fills the buffer is too long, and no case.
-fn end_line(rt: &impl Print, line: &[u8], len: usize, short: bool) {
-    if len < line.len() {
-        case::run(rt, &line[0..len], short);
-    } else {
-        answers::unread(rt, line);
+    // Runs the line, which has ended, and begins the next. One that fills the room is too long, and no case.
+    pub fn end(&mut self, out: &Printer<impl Print>) {
+        if self.len < ROOM {
+            case::run(out, &self.bytes[..self.len]);
+        } else {
+            answers::unread(out, &self.bytes);
+        }
+        self.len = 0;
     }
 }

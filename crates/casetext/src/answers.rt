@@ -1,140 +1,79 @@
 // The lines that are printed.
-use crate::print::{put, put_hex, put_number, put_yes};
+use crate::print::Printer;
 use crate::shares::put_shares;
 use crate::short::put_digest;
 use refusal::Verdict;
 
 // A line that is no case.
-pub fn unread(rt: &impl Print, line: &[u8]) {
-    put(rt, b"cannot read case: ");
-    put(rt, line);
-    put(rt, b"\n");
+pub fn unread(out: &Printer<impl Print>, line: &[u8]) {
+    out.print("cannot read case: ");
+    out.bytes(line);
+    out.print("\n");
 }
 
 // An acceptance has number and node 0: one with another node is printed as a refusal, so that it is seen.
 pub fn accepted(v: Verdict) -> bool {
-    (v.number == 0) & (v.node == 0)
-}
-
-pub fn put_label(rt: &impl Print, label: &[u8]) {
-    put(rt, label);
-    put(rt, b": ");
-}
-
-fn put_refusal(rt: &impl Print, v: Verdict) {
-    put(rt, b"refused ");
-    put_number(rt, v.number as u64);
-    put(rt, b" at ");
-    put_number(rt, v.node as u64);
+    v == Verdict::ACCEPTED
 }
 
 // What checking a table answered.
-pub fn table(rt: &impl Print, label: &[u8], v: Verdict) {
-    put_label(rt, label);
+pub fn table(out: &Printer<impl Print>, label: &[u8], v: Verdict) {
+    out.label(label);
     if accepted(v) {
-        put(rt, b"accepted");
+        out.print("accepted");
     } else {
-        put_refusal(rt, v);
+        print!(out; "{v}");
     }
-    put(rt, b"\n");
+    out.print("\n");
 }
 
 // What the program answered, a line with its end.
-pub fn program(rt: &impl Print, label: &[u8], line: &[u8]) {
-    put_label(rt, label);
-    put(rt, line);
+pub fn program(out: &Printer<impl Print>, label: &[u8], line: &[u8]) {
+    out.label(label);
+    out.bytes(line);
 }
 
 // What reading a record answered, and the words that were lent.
-pub fn record(rt: &impl Print, label: &[u8], v: Verdict, count: usize, words: &[u64]) {
-    put_label(rt, label);
-    put_count(rt, v, count, b" samples");
-    put(rt, b", words");
-    put_words(rt, words);
-    put(rt, b"\n");
-}
-
-// What the judge answered, and the words that were lent.
-pub fn judgement(
-    rt: &impl Print,
-    label: &[u8],
-    v: Verdict,
-    level: u8,
-    tested: bool,
-    words: &[u64],
-    short: bool,
-) {
-    put_level(rt, label, v, level, tested);
-    put_lent(rt, words, short);
-}
-
-// What the plain judge answered, to which nothing is lent.
-pub fn plain(rt: &impl Print, label: &[u8], v: Verdict, level: u8, tested: bool) {
-    put_level(rt, label, v, level, tested);
-    put(rt, b"\n");
-}
-
-// What either judge says.
-fn put_level(rt: &impl Print, label: &[u8], v: Verdict, level: u8, tested: bool) {
-    put_judged(rt, label, v);
-    put(rt, b"level ");
-    put_number(rt, level as u64);
-    put(rt, b" tested ");
-    put_yes(rt, tested);
-}
-
-// What match ends answered, and the words that were lent.
-pub fn ends(
-    rt: &impl Print,
-    label: &[u8],
-    v: Verdict,
-    mask: u64,
-    top: bool,
-    words: &[u64],
-    short: bool,
-) {
-    put_judged(rt, label, v);
-    put(rt, b"ends ");
-    put_hex(rt, mask, 1);
-    put(rt, b" top ");
-    put_yes(rt, top);
-    put_lent(rt, words, short);
-}
-
-// The label, and the refusal where there is one; the rest of the answer follows.
-fn put_judged(rt: &impl Print, label: &[u8], v: Verdict) {
-    put_label(rt, label);
-    if !accepted(v) {
-        put_refusal(rt, v);
-        put(rt, b", ");
+pub fn record(out: &Printer<impl Print>, label: &[u8], v: Verdict, count: usize, words: &[u64]) {
+    out.label(label);
+    put_count(out, v, count, "samples");
+    out.print(", words");
+    for word in words {
+        print!(out; " {word}");
     }
-}
-
-fn put_lent(rt: &impl Print, words: &[u64], short: bool) {
-    put(rt, b", words");
-    if short {
-        put_digest(rt, words);
-    } else {
-        put_shares(rt, words);
-    }
-    put(rt, b"\n");
+    out.print("\n");
 }
 
 // How many samples were read or nodes written, or the refusal with the count that came with it.
-pub fn put_count(rt: &impl Print, v: Verdict, count: usize, things: &[u8]) {
+pub fn put_count(out: &Printer<impl Print>, v: Verdict, count: usize, things: &str) {
     if accepted(v) {
-        put_number(rt, count as u64);
-        put(rt, things);
-        return;
+        print!(out; "{count} {things}");
+    } else {
+        print!(out; "{v}");
+        print!(out; ", count {count}");
     }
-    put_refusal(rt, v);
-    put(rt, b", count ");
-    put_number(rt, count as u64);
 }
 
-fn put_words(rt: &impl Print, words: &[u64]) {
-    for word in words {
-        put(rt, b" ");
-        put_number(rt, *word);
+// The label, and the refusal where there is one; what a judge says or the match ends follow.
+pub fn put_judged(out: &Printer<impl Print>, label: &[u8], v: Verdict) {
+    out.label(label);
+    if !accepted(v) {
+        print!(out; "{v}");
+        out.print(", ");
     }
+}
+
+// The words that were lent to a judge.
+pub fn put_lent(out: &Printer<impl Print>, words: &[u64]) {
+    out.print(", words");
+    if out.short {
+        put_digest(out, words);
+    } else {
+        put_shares(out, words);
+    }
+    out.print("\n");
+}
+
+pub fn yes_or_no(yes: bool) -> &'static str {
+    if yes { "yes" } else { "no" }
 }

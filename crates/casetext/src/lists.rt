@@ -1,113 +1,53 @@
 // Lists of hexadecimal numbers, as the bytes and the samples of a case are written.
-ghost use Rattle.std.specs.Prelude.{◌+◌, ◌≤◌, length};
+use crate::text::{Base, NoCase, numeral, split_once};
+use std::ops::RangeInclusive;
 
-use crate::text::{first, numeral};
-
-// A number and how often it stands, where the text says so.
-#[derive(Clone, Copy)]
-struct Run {
-    value: u64,
-    times: usize,
-    good: bool,
-}
-
-// How many numbers were put, where the text is a list of numbers that fit.
-#[derive(Clone, Copy)]
-pub struct Taken {
-    pub count: usize,
-    pub good: bool,
-}
-
-// The text as hexadecimal digits, as many as are allowed, with `*` and a decimal number after them or nothing.
-fn run_of(text: &[u8], least: usize, most: usize) -> Run {
-    let end = first(text, 0, b'*', true);
-    if (end < least) | (end > most) {
-        return Run {
-            value: 0,
-            times: 0,
-            good: false,
-        };
-    }
-    let number = numeral(&text[0..end], 16);
-    if end == text.len() {
-        return Run {
-            value: number.value as u64,
-            times: 1,
-            good: number.good,
-        };
-    }
-    let times = numeral(&text[end + 1..], 10);
-    Run {
-        value: number.value as u64,
-        times: times.value,
-        good: number.good & times.good,
-    }
-}
-
-// Puts the value at so many places from the one given on.
-fn fill(out: &mut [u64], from: usize, times: usize, value: u64)
-    requires { from + times ≤ length out.old }
-{
-    for i in 0..times {
-        out[from + i] = value;
-    }
-}
-
-// Puts the numbers of one run after the `count` that stand in `out`.
-fn put_run(run: Run, out: &mut [u64], count: usize) -> Taken
-    requires { count ≤ length out.old }
-    ensures { result.count ≤ length out.new }
-{
-    let times = run.times;
-    if times > out.len() - count {
-        return Taken {
-            count: 0,
-            good: false,
-        };
-    }
-    fill(out, count, times, run.value);
-    Taken {
-        count: count + times,
-        good: run.good,
-    }
-}
-
-// Puts the numbers that the text lists, each of `least` to `most` digits, at the start of `out`.
-pub fn numbers(text: &[u8], least: usize, most: usize, out: &mut [u64]) -> Taken
-    ensures { result.count ≤ length out.new }
-{
-    let mut taken = Taken {
-        count: 0,
-        good: true,
+// A number of so many hexadecimal digits, and how often it stands: `*` and a decimal number say so, or else it stands once.
+fn run(text: &[u8], digits: &RangeInclusive<usize>) -> Option<(usize, usize)> {
+    let (number, times) = match split_once(text, b'*') {
+        Some((number, times)) => (number, numeral(times, Base::Decimal)?),
+        None => (text, 1),
     };
-    let mut at = first(text, 0, b' ', false);
-    while at < text.len() {
-        let end = first(text, at + 1, b' ', true);
-        taken = put_run(run_of(&text[at..end], least, most), out, taken.count);
-        if !taken.good {
-            return taken;
-        }
-        at = first(text, end, b' ', false);
+    if !digits.contains(&number.len()) {
+        return None;
     }
-    taken
+    Some((numeral(number, Base::Hexadecimal)?, times))
 }
 
-// Puts the lowest byte of each number at its place in `out`.
-fn narrow(numbers: &[u64], out: &mut [u8])
-    requires { length numbers.now ≤ length out.old }
+// Puts the numbers of one run after the `count` that stand in `out`, and answers how many stand there then.
+fn put_run<T: Copy + TryFrom<usize>>(
+    text: &[u8],
+    digits: &RangeInclusive<usize>,
+    out: &mut [T],
+    count: usize,
+) -> Option<usize>
+where
+    T::Error: Drop,
 {
-    for i in 0..numbers.len() {
-        out[i] = (numbers[i] % 256) as u8;
+    let (number, times) = run(text, digits)?;
+    let value = T::try_from(number).ok()?;
+    let end = count.checked_add(times)?;
+    for place in out.get_mut(count..end)? {
+        *place = value;
     }
+    Some(end)
 }
 
-// Puts the bytes that the text lists at the start of `out`.
-pub fn bytes(text: &[u8], out: &mut [u8; 2048]) -> Taken
-    ensures { result.count ≤ length out.new }
+// Puts the numbers that the text lists, each of so many digits, at the start of `out`, and answers them.
+pub fn numbers<'a, T: Copy + TryFrom<usize>>(
+    text: &[u8],
+    digits: &RangeInclusive<usize>,
+    out: &'a mut [T],
+) -> Result<&'a [T], NoCase>
+where
+    T::Error: Drop,
 {
-    let mut space = [0u64; 2048];
-    let taken = numbers(text, 2, 2, &mut space);
-    let count = taken.count;
-    narrow(&space[0..count], out);
-    taken
+    let mut count = 0;
+    for run in text
+        .split(|byte| *byte == b' ')
+        .filter(|run| !run.is_empty())
+    {
+        count = put_run(run, digits, out, count).ok_or(NoCase)?;
+    }
+    out.get(..count).ok_or(NoCase)
 }

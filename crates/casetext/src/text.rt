@@ -1,120 +1,44 @@
-// Finding places in a line, and reading numbers from it.
-ghost use Rattle.std.specs.Prelude.{◌<◌, ◌≤◌, length};
+// Splitting a line, and reading numbers from it.
 
-// A number, where the text is one.
+// That a text is not what a case has in its place.
+#[derive(Clone, Copy, Debug, PartialEq, Eq)]
+pub struct NoCase;
+
+// The text before the first place that holds the byte, and the text after it.
+pub fn split_once(text: &[u8], byte: u8) -> Option<(&[u8], &[u8])> {
+    let at = text.iter().position(|b| *b == byte)?;
+    Some((&text[..at], &text[at + 1..]))
+}
+
+// The text before the last place that holds the byte, and the text after it.
+pub fn rsplit_once(text: &[u8], byte: u8) -> Option<(&[u8], &[u8])> {
+    let at = text.iter().rposition(|b| *b == byte)?;
+    Some((&text[..at], &text[at + 1..]))
+}
+
+// The base that a number is written to.
 #[derive(Clone, Copy)]
-pub struct Number {
-    pub value: usize,
-    pub good: bool,
+pub enum Base {
+    Decimal = 10,
+    Hexadecimal = 16,
 }
 
-// The number that a text begins with, and where the text goes on after it, where it begins so.
-#[derive(Clone, Copy)]
-pub struct Leading {
-    pub value: usize,
-    pub rest: usize,
-    pub good: bool,
+// The text as a number to the base.
+pub fn numeral(text: &[u8], base: Base) -> Option<usize> {
+    if text.is_empty() {
+        return None;
+    }
+    text.iter().try_fold(0usize, |value, byte| {
+        let digit = char::from(*byte).to_digit(base as u32)?;
+        value
+            .checked_mul(base as usize)?
+            .checked_add(digit as usize)
+    })
 }
 
-// The first place, from the one given on, that holds the byte or, where `wanted` is false, that does not; the length where there is none.
-pub fn first(text: &[u8], from: usize, byte: u8, wanted: bool) -> usize
-    requires { from ≤ length text.now }
-    ensures { (from ≤ result) × (result ≤ length text.now) }
-{
-    for i in from..text.len() {
-        if (text[i] == byte) == wanted {
-            return i;
-        }
-    }
-    text.len()
-}
-
-// The last place that holds the byte; the length where there is none.
-pub fn last(text: &[u8], byte: u8) -> usize
-    ensures { result ≤ length text.now }
-{
-    for i in (0..text.len()).rev() {
-        if text[i] == byte {
-            return i;
-        }
-    }
-    text.len()
-}
-
-// The length of the word where the text begins with it, and 0 where it does not.
-pub fn after(text: &[u8], word: &[u8]) -> usize
-    ensures { result ≤ length text.now }
-{
-    if text.len() < word.len() {
-        return 0;
-    }
-    for i in 0..word.len() {
-        if text[i] != word[i] {
-            return 0;
-        }
-    }
-    word.len()
-}
-
-// The value of a hexadecimal digit; 16 for any other byte.
-fn digit(byte: u8) -> u8 {
-    match byte {
-        b'0'..=b'9' => byte - b'0',
-        b'A'..=b'F' => byte - b'A' + 10,
-        b'a'..=b'f' => byte - b'a' + 10,
-        _ => 16,
-    }
-}
-
-// The text as a number to the base, which is 16 at most, where it is one and fits.
-pub fn numeral(text: &[u8], base: usize) -> Number
-    requires { 0 < base }
-{
-    let bad = Number {
-        value: 0,
-        good: false,
-    };
-    if text.len() == 0 {
-        return bad;
-    }
-    let mut value: usize = 0;
-    for byte in text {
-        let d = digit(*byte) as usize;
-        if d >= base {
-            return bad;
-        }
-        if value > (usize::MAX - d) / base {
-            return bad;
-        }
-        value = value * base + d;
-    }
-    Number { value, good: true }
-}
-
-// The decimal number that the text begins with, where it is no more than the most that is allowed, and the place after the space that ends it.
-pub fn opening(text: &[u8], most: usize) -> Leading
-    ensures { (result.value ≤ most) × (result.rest ≤ length text.now) }
-{
-    let bad = Leading {
-        value: 0,
-        rest: 0,
-        good: false,
-    };
-    let end = first(text, 0, b' ', true);
-    if end == text.len() {
-        return bad;
-    }
-    let number = numeral(&text[0..end], 10);
-    let value = number.value;
-    if !number.good {
-        return bad;
-    }
-    if value > most {
-        return bad;
-    }
-    Leading {
-        value,
-        rest: end + 1,
-        good: true,
-    }
+// The decimal number that the text begins with, and the text after the space that ends it.
+pub fn opening(text: &[u8]) -> Result<(usize, &[u8]), NoCase> {
+    let (number, rest) = split_once(text, b' ').ok_or(NoCase)?;
+    let value = numeral(number, Base::Decimal).ok_or(NoCase)?;
+    Ok((value, rest))
 }

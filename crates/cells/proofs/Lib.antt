@@ -1,4 +1,3 @@
 -- Laws of words and workspaces, which the crates above cite.
 pub mod Loops
-pub mod Starting
 pub mod Laying

@@ -1,7 +1,7 @@
 // How a workspace is shared out, and the words of rows that are read, or made 0.
 #![tactic(auto)]
 
-ghost use Rattle.std.specs.Prelude.{◌≡◌, ◌+◌, ◌≤◌, ◌<◌, ltb, length};
+ghost use Rattle.std.specs.Prelude.{◌≡◌, ℕ, false, ◌+◌, ◌≤◌, ◌<◌, ltb, length};
 ghost use Rattle.positions.specs.Member.{has, Is};
 ghost use Rattle.cells.specs.Shares.{share, longest, word_in, HasRow};
 ghost use Rattle.cells.specs.Bits.{longer, last_letter, starts, starts_into};
@@ -17,6 +17,13 @@ pub const TOP_WORD: usize = 64;
 
 // The samples of a record, at most.
 pub const LONGEST: usize = 63;
+
+// How many samples a record has: its positions are the places 0 to n.
+#[derive(Clone, Copy)]
+pub struct Span {
+    pub n: usize,
+    ghost short: { n ≤ longest },
+}
 
 // Word i of row a.
 pub fn word_at(rows: &[u64], a: usize, i: usize) -> PositionSet
@@ -43,40 +50,40 @@ pub fn last_letters(rows: &[u64], a: usize, i: usize) -> PositionSet
     longer_ends(rows, a, i).down()
 }
 
-// The starts, up to n, of the matches of row a that are not empty.
-pub fn starts_of(rows: &[u64], a: usize, n: usize) -> PositionSet
-    requires { HasRow (length rows.now) a × (n ≤ longest) }
-    ensures { Is result.bits (starts rows.now n a) }
+// The starts, up to n, that pass the test.
+fn starts_where<F: Fn(usize) -> bool>(span: Span, test: F) -> PositionSet
+    requires { (i : ℕ) → i ≤ span.n → F.pre test i }
+    ensures told { (i : ℕ) → i ≤ span.n → F.post test i (has result.bits i) }
+    ensures within { (i : ℕ) → span.n < i → has result.bits i ≡ false }
 {
     let mut out = PositionSet::empty();
-    let mut i: usize = 0;
-    while i <= n {
-        out = out.with_if(i, !longer_ends(rows, a, i).is_empty());
-        i += 1;
+    for i in 0..=span.n {
+        out = out.with_if(i, test(i));
     }
     out
+}
+
+// The starts, up to n, of the matches of row a that are not empty.
+pub fn starts_of(rows: &[u64], a: usize, span: Span) -> PositionSet
+    requires { HasRow (length rows.now) a }
+    ensures { Is result.bits (starts rows.now span.n a) }
+{
+    starts_where(span, |i| !longer_ends(rows, a, i).is_empty())
 }
 
 // The starts, up to n, of the matches of row a that are not empty and have their last letter in the set.
-pub fn starts_into(rows: &[u64], a: usize, n: usize, p: PositionSet) -> PositionSet
-    requires { HasRow (length rows.now) a × (n ≤ longest) }
-    ensures { Is result.bits (starts_into rows.now n a (has p.bits)) }
+pub fn starts_into(rows: &[u64], a: usize, span: Span, p: PositionSet) -> PositionSet
+    requires { HasRow (length rows.now) a }
+    ensures { Is result.bits (starts_into rows.now span.n a (has p.bits)) }
 {
-    let mut out = PositionSet::empty();
-    let mut i: usize = 0;
-    while i <= n {
-        out = out.with_if(i, last_letters(rows, a, i).meets(p));
-        i += 1;
-    }
-    out
+    starts_where(span, move |i| last_letters(rows, a, i).meets(p))
 }
 
 // The places of all n samples.
-pub fn all_samples(n: usize) -> PositionSet
-    requires { n ≤ longest }
-    ensures { Is result.bits (λ k. ltb k n) }
+pub fn all_samples(span: Span) -> PositionSet
+    ensures { Is result.bits (λ k. ltb k span.n) }
 {
-    PositionSet::full(n).down()
+    PositionSet::full(span.n).down()
 }
 
 // Words `from` to `to` - 1 of the share that begins at word `at`, made 0.
@@ -84,9 +91,5 @@ pub fn clear(ws: &mut [u64], at: usize, from: usize, to: usize)
     requires { (from ≤ to) × (at + to ≤ length ws.old) }
     ensures { Stored None ws.old at from to ws.new }
 {
-    let mut m = from;
-    while m < to {
-        ws[at + m] = 0;
-        m += 1;
-    }
+    ws[at + from..at + to].fill(0);
 }

@@ -10,7 +10,7 @@ use lib.Dec.{T, eqb, leb}
 use Rattle.telling.specs.Tells.{Tells}
 use Rattle.telling.proofs.Telling.{is_or, is_and, is_not, is_eq, is_le, side}
 use Rattle.refusal.specs.Heading.{count}
-use Rattle.nodes.specs.declared.operators.Row.{Row}
+use Rattle.nodes.specs.Operators.{Row}
 use Rattle.nodes.specs.declared.Node.{Node}
 use Rattle.nodes.specs.declared.Node.TheVariants.{Boolean}
 use Rattle.nodes.specs.declared.BooleanOp.TheVariants.{Constant}

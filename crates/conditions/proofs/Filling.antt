@@ -2,12 +2,12 @@
 use mathlib.Core.Path.{◌≡◌, refl, sym, subst, ◌∙◌}
 use mathlib.Core.Bool.{Bool}
 use mathlib.Core.List.{List}
-use mathlib.Core.Logic.{⊎_elim}
-use Prim.Native.Nat.{ℕ, ◌+◌, ◌*◌, ◌<◌, ◌≤◌}
+use mathlib.Core.Logic.{◌⊎◌, inl, inr}
+use Prim.Native.Nat.{ℕ, ◌+◌, ◌*◌, ◌<◌}
 use native.Mathlib.Omega.{arith}
-use native.Mathlib.Nat.{eq-or-lt_of_le}
 use lib.ListN.{length, get_or, set, length-set}
 use lib.Seq.{get_or-set_same, get_or-set_other}
+use borrow.Author.Count.{below_more}
 use Rattle.positions.specs.Member.{has, Is}
 use Rattle.refusal.specs.Heading.{count}
 use Rattle.meaning.specs.Syntax.{Bexp}
@@ -29,7 +29,7 @@ use Rattle.cells.specs.Bits.{operand_bit, value_bit}
 use Rattle.cells.specs.Ready.{ready_boolean}
 use Rattle.rowmeaning.specs.Sets.{Valued}
 use Rattle.rowmeaning.proofs.BooleanRules.{constant_valued, signal_valued, risen_valued, fallen_valued, not_valued, and_valued, or_valued}
-use Rattle.conditions.specs.Conditions.{Shaped, Conditioned, Below, Conditions}
+use Rattle.conditions.specs.Conditions.{Shaped, Conditioned, Below}
 
 module _ (s xs : List ℕ) (shaped : Shaped s xs) (k : ℕ) (inside : k < count s) (sets : List ℕ) (below : Below s xs k sets) where
   -- its operands' sets are there
@@ -78,27 +78,16 @@ module _ (s xs : List ℕ) (shaped : Shaped s xs) (k : ℕ) (inside : k < count 
           record { bits = λ i l. h i ∙ r.bits i l; past = λ i l. h i ∙ r.past i l };
     }
 
-    pub no_sequence : (o : SequenceOp) → node ≡ Sequence o → (x : ℕ) → Conditioned s xs k x
-    no_sequence o e x = record { means = λ b d. absurd (subst (λ v. ReadB (node_at s) v b) (named e) (read_b d)) }
+    absent : {kind : Node} → node ≡ kind → ((b : Bexp Atom) → ¬ ReadB (node_at s) kind b) → (x : ℕ) → Conditioned s xs k x
+    absent e f x = record { means = λ b d. absurd (f b (subst (λ v. ReadB (node_at s) v b) (named e) (read_b d))) }
 
-    pub no_property : (o : PropertyOp) → node ≡ Property o → (x : ℕ) → Conditioned s xs k x
-    no_property o e x = record { means = λ b d. absurd (subst (λ v. ReadB (node_at s) v b) (named e) (read_b d)) }
+    pub no_boolean : ((o : SequenceOp) × node ≡ Sequence o) ⊎ ((o : PropertyOp) × node ≡ Property o) → (x : ℕ) → Conditioned s xs k x
+    no_boolean (inl (o, e)) = absent e (λ b z. z)
+    no_boolean (inr (o, e)) = absent e (λ b z. z)
 
-  -- one set more
-  more : (x : ℕ) → Conditioned s xs k x → Below s xs (k + 1) (set sets k x)
-  more x h = record {
-    room = length-set sets k x ∙ below.room;
-    below = λ j l.
-        ⊎_elim (λ (e : j ≡ k). rw (e, get_or-set_same sets k x 0 (let r = below.room in let m = shaped.few in omega arith)) h)
-        (λ (q : j < k). rw (get_or-set_other sets k j x 0 (λ z. omega arith)) (below.below j q)) (eq-or-lt_of_le (let g : j ≤ k = omega arith in g));
-  }
-
-pub below_none : (s xs sets : List ℕ) → length sets ≡ 120 → Below s xs 0 sets
-below_none s xs sets e = record { room = e; below = λ j l. absurd (omega arith) }
-
-pub below_turn : (s xs : List ℕ) → Shaped s xs → (m k : ℕ) → m ≡ count s → k < m → (sets : List ℕ) → Below s xs k sets → (x : ℕ) → Conditioned s xs k x
-    → Below s xs (k + 1) (set sets k x)
-below_turn s xs h m k e l sets b x r = more s xs h k (omega arith) sets b x r
-
-pub all_below : (s xs sets : List ℕ) (k : ℕ) → count s ≤ k → Below s xs k sets → Conditions s xs sets
-all_below s xs sets k l b = record { room = b.room; below = λ j u. b.below j (omega arith) }
+-- one set more
+pub below_turn : (s xs sets : List ℕ) (k x : ℕ) → k < 120 → Below s xs k sets → Conditioned s xs k x → Below s xs (k + 1) (set sets k x)
+below_turn s xs sets k x l b h = record {
+  room = length-set sets k x ∙ b.room;
+  below = below_more _ _ (λ j q. rw (get_or-set_other sets k j x 0 (λ z. omega arith)) (b.below j q)) (rw (get_or-set_same sets k x 0 (omega (arith, b.room))) h);
+}

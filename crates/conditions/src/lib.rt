@@ -6,7 +6,7 @@ ghost use Rattle.refusal.specs.Heading.{count};
 ghost use Rattle.conditions.specs.Conditions.{Shaped, Conditioned, Below, Conditions};
 
 use booleans::boolean_set;
-use nodes::{Node, decode, node_at};
+use nodes::{Node, node_at};
 use positions::PositionSet;
 
 // The set of node b.
@@ -22,25 +22,22 @@ fn set_of(table: &[u8], samples: &[u64], sets: &[u64], k: usize) -> PositionSet
     requires { Shaped table.now samples.now × (k < count table.now) × Below table.now samples.now k sets.now }
     ensures { Conditioned table.now samples.now k result.bits }
 {
-    let node = decode(node_at(table, k));
-    match node {
+    match Node::from(node_at(table, k)) {
         Node::Boolean(op) => boolean_set(sets, 1, samples, op),
-        Node::Sequence(_) => PositionSet::empty(),
-        Node::Property(_) => PositionSet::empty(),
+        Node::Sequence(_) | Node::Property(_) => PositionSet::empty(),
     }
 }
 
-// The sets of all m nodes; a node that is no boolean has none.
-pub fn conditions(table: &[u8], samples: &[u64], m: usize) -> [u64; 120]
-    requires { Shaped table.now samples.now × (m ≡ count table.now) }
+// The sets of all nodes; a node that is no boolean has none.
+pub fn conditions(table: &[u8], samples: &[u64]) -> [u64; 120]
+    requires { Shaped table.now samples.now }
     ensures { Conditions table.now samples.now result }
 {
+    let m = usize::from(table[5]);
     let mut sets = [0; 120];
-    let mut k: usize = 0;
-    while k < m {
+    for k in 0..m {
         let set = set_of(table, samples, &sets, k);
         sets[k] = set.bits;
-        k += 1;
     }
     sets
 }

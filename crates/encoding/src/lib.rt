@@ -3,21 +3,17 @@
 
 ghost use Rattle.std.specs.Prelude.{◌≡◌, cond, ◌+◌, ◌*◌, ◌<◌, ◌≤◌, eqb, length, get_or};
 ghost use Rattle.nodes.specs.Operators.{none};
+ghost use Rattle.nodes.specs.Sorts.{operand_sort};
 ghost use Rattle.nodes.specs.Computed.{named_by};
 ghost use Rattle.encoding.specs.Encoding.{heading, four_bytes, put};
 
-use nodes::operators::NONE;
-use nodes::{Raw, named};
+use nodes::operators::Operand;
+use nodes::{Raw, SLOTS, named};
 
-// A number below 256 as a byte.
-pub fn low(x: usize) -> u8
-    requires { x < 256 }
-    ensures { result ≡ x }
-{
-    x as u8
-}
+// The bytes of the largest table: the heading and 120 nodes.
+pub const TABLE_BYTES: usize = 486;
 
-// Writes the four bytes of node `at`.
+// Writes the four bytes of node `at`, each by a store of its own: a copy of four bytes made rewriting a tenth slower.
 pub fn put_node(out: &mut [u8], at: usize, v: Raw)
     requires { 4 * at + 10 ≤ length out.old }
     ensures { out.new ≡ put out.old (4 * at + 6) (four_bytes v) }
@@ -34,18 +30,15 @@ pub fn put_heading(out: &mut [u8], first: u8, second: u8, m: usize)
     requires { (m ≤ 120) × (6 ≤ length out.old) }
     ensures { out.new ≡ put out.old 0 (heading first second m) }
 {
-    out[0] = 83;
-    out[1] = 86;
-    out[2] = 84;
-    out[3] = first;
-    out[4] = second;
-    out[5] = low(m);
+    out[..6].copy_from_slice(&[b'S', b'V', b'T', first, second, m as u8]);
 }
 
-// An operand byte of the sort, by its new number; any other byte as it is.
-pub fn moved_byte(numbers: &[u8], sort: u8, v: u8) -> u8
-    requires { length numbers.now ≡ 121 }
-    ensures { result ≡ cond (eqb sort none) v (get_or numbers.now (named_by v) 0) }
+// An operand that is a node, by its new number; a plain byte as it is.
+pub fn moved_byte(numbers: &[u8; SLOTS], kind: Operand, v: u8) -> u8
+    ensures { result ≡ cond (eqb (operand_sort kind) none) v (get_or numbers.now (named_by v) 0) }
 {
-    if sort == NONE { v } else { numbers[named(v)] }
+    match kind {
+        Operand::Below(_) => v,
+        Operand::Node(_) => numbers[named(v)],
+    }
 }

@@ -1,6 +1,6 @@
 -- What opening a version 3 table answers, case by case. Assumes nothing.
 use native.Mathlib.Omega.{arith}
-use borrow.Author.Tests.{eqb-true, eq-eqb}
+use borrow.Author.Tests.{eqb-true, eqb-false, eq-eqb}
 use mathlib.Core.Path.{◌≡◌, refl, ◌∙◌, sym, ap}
 use mathlib.Core.Logic.{inl, inr, ⊎_elim}
 use mathlib.Core.Bool.{Bool, true, false, not, ◌&&◌, true≢false}
@@ -9,19 +9,28 @@ use Prim.Native.Nat.{ℕ, ◌+◌, ◌*◌, ◌-◌, ◌<◌, ◌≤◌}
 use lib.Dec.{eqb, ltb}
 use lib.ListN.{length, drop}
 use Rattle.telling.proofs.Telling.{side}
-use Rattle.refusal.specs.declared.Verdict.{Verdict}
-use Rattle.refusal.specs.First.{Answers, NotGiven}
+use Rattle.std.specs.Prelude.{Option, Some, None, Err}
+use Rattle.std.specs.Option.{option_eq, ok_or}
+use Rattle.refusal.specs.declared.Reason.{Reason}
+use Rattle.refusal.specs.declared.Reason.TheVariants.{WrongRoot, ManyNodes}
+use Rattle.refusal.specs.Computed.{accepted}
+use Rattle.refusal.specs.Reasons.{verdict_of}
+use Rattle.refusal.specs.First.{Refusal, Answers, NotGiven}
 use Rattle.refusal.specs.Heading.{version, count}
-use Rattle.refusal.proofs.Given.{none_given, answers_stopped, answers_beyond}
+use Rattle.refusal.proofs.Errors.{refused_by}
+use Rattle.refusal.proofs.Given.{answers_stopped, answers_beyond}
+use Rattle.nodes.specs.declared.operators.Sort.{Sort}
+use Rattle.nodes.specs.contracts.operators.SortPartialEq.TheImpl.{eq-value}
+use Rattle.nodes.specs.Sorts.{sort_number}
 use Rattle.nodes.specs.Operators.{sequence, newest}
 use Rattle.nodes.specs.Nodes.{sort_at, root}
 use Rattle.nodes.proofs.Built.{Built}
+use Rattle.nodes.proofs.Sorting.{same_sort}
 use Rattle.table.specs.Check.{refusals_to, ChecksTo}
 use Rattle.table.proofs.CheckingTo.{sound, checks_given}
 use Rattle.expansion.specs.Expansion.{base_count, expanded_count}
 use Rattle.expansion.specs.Formed.{Formed}
-use Rattle.expand.specs.declared.Expansion.{Expansion}
-use Rattle.expand.specs.Opens.{has_version3, refused_expansion, Unfolds, open_refusals, Opens}
+use Rattle.expand.specs.Opens.{has_version3, expansion_by, Unfolds, open_refusals, Opens}
 
 -- a derived table has version 3, and its count is that of the expanded table
 module _ (s : List ℕ) (derived : has_version3 s ≡ true) where
@@ -37,89 +46,82 @@ module _ (s : List ℕ) (derived : has_version3 s ≡ true) where
   unfolding expanded_count
   counted = rw (eq-eqb (version s) 3 version_three)
 
-  module _ (wrong : ℕ) (v : Verdict) (c : ChecksTo newest s v) where
-    -- refused by checking
-    pub stopped : ¬ (v.number ≡ 0) → (d : List ℕ) (r : Expansion) → r ≡ refused_expansion v.number v.node → Opens s wrong d r d
-    unfolding open_refusals
-    stopped z d r e = rw e (record {
-      answer = answers_stopped (refusals_to newest s) (drop 9 (open_refusals s wrong)) (record { number = v.number; node = v.node }) z c;
-      count = λ y. absurd (z y);
-      few = λ y. absurd (z y);
-      bytes = λ y. absurd (z y);
-      refused = λ _. refl;
-      low = omega arith;
-    })
+-- what a table has that checking accepts, of n nodes
+module _ (s : List ℕ) (c : ChecksTo newest s accepted) (n : ℕ) (en : n ≡ count s) where
+  ok : Built s
+  ok = (sound newest s accepted c refl).formed
 
-    module _ (z : v.number ≡ 0) where
-      ok : Built s
-      ok = (sound newest s v c z).formed
+  passes : NotGiven (refusals_to newest s)
+  passes = checks_given newest s accepted c refl
 
-      passes : NotGiven (refusals_to newest s)
-      passes = checks_given newest s v c z
+  pub some : 1 ≤ n
+  some = let l = ok.some in omega arith
 
-      pub has-count : 5 < length s
-      has-count = let l = ok.long in omega arith
+  pub last_there : 4 * (n - 1) + 10 ≤ length s
+  last_there = let l = ok.long in let a = ok.some in omega arith
 
-      module _ (n : ℕ) (en : n ≡ count s) where
-        pub some : 1 ≤ n
-        some = let l = ok.some in omega arith
+  pub formed : Formed s n
+  formed = let f = ok.few in let l = ok.long in record { few = omega arith; long = omega arith; fit = λ k h. ok.fit k (omega arith) }
 
-        pub last_there : 4 * (n - 1) + 10 ≤ length s
-        last_there = let l = ok.long in let a = ok.some in omega arith
+  pub heavy : sequence ≤ sort_at s (root s)
+  heavy = let r = ok.rooted in let a = ok.some in let k = (ok.fit (root s) (omega arith)).known in omega arith
 
-        root_is : n - 1 ≡ root s
-        root_is = ap (λ (i : ℕ). i - 1) en
+-- ---- the answers
 
-        pub formed : Formed s n
-        formed = let f = ok.few in let l = ok.long in record { few = omega arith; long = omega arith; fit = λ k h. ok.fit k (omega arith) }
+module _ (s : List ℕ) (derived : has_version3 s ≡ true) (wrong : Option Sort) (d : List ℕ) where
+  abbrev later : List Refusal
+  later = drop 9 (open_refusals s (sort_number wrong))
 
-        pub heavy : sequence ≤ sort_at s (root s)
-        heavy = let r = ok.rooted in let a = ok.some in let k = (ok.fit (root s) (omega arith)).known in omega arith
+  opens_refused : (e : Reason) (d' : List ℕ) → Answers (open_refusals s (sort_number wrong)) (verdict_of e) → Opens s (sort_number wrong) d (expansion_by (Err e)) d'
+  opens_refused e d' a = record {
+    answer = a;
+    count = λ y. absurd (refused_by e y);
+    few = λ y. absurd (refused_by e y);
+    bytes = λ y. absurd (refused_by e y);
+    refused = λ _. refl;
+    low = omega arith;
+  }
 
-        -- refused by the root
-        pub wrong_root_lem : (q : ℕ) → q ≡ sort_at s (n - 1) → q ≡ wrong → (d : List ℕ) (r : Expansion) → r ≡ refused_expansion 12 0 → Opens s wrong d r d
-        unfolding open_refusals Answers
-        wrong_root_lem q eq w d r e = rw e (record {
-          answer = answers_beyond (refusals_to newest s) (drop 9 (open_refusals s wrong)) _ passes (inl (refl, (refl, ap (sort_at s) (sym root_is) ∙ sym eq ∙ w)));
-          count = λ y. absurd (let a : ⊥ = omega arith in a);
-          few = λ y. absurd (let a : ⊥ = omega arith in a);
-          bytes = λ y. absurd (let a : ⊥ = omega arith in a);
-          refused = λ _. refl;
-          low = omega arith;
-        })
+  -- refused by checking
+  pub stopped : (e : Reason) → ChecksTo newest s (verdict_of e) → Opens s (sort_number wrong) d (expansion_by (Err e)) d
+  unfolding open_refusals
+  stopped e c = opens_refused e d (answers_stopped (refusals_to newest s) later (verdict_of e) (refused_by e) c)
 
-        module _ (q : ℕ) (eq : q ≡ sort_at s (n - 1)) (right : q ≡ wrong → ⊥) where
-          right_root : (k : ℕ) → ¬ ((k ≡ 0) × (sort_at s (root s) ≡ wrong))
-          right_root k (_, e) = right (eq ∙ ap (sort_at s) root_is ∙ e)
+  -- o is the root's sort, and b whether it is the wrong one
+  module _ (c : ChecksTo newest s accepted) (n : ℕ) (en : n ≡ count s) (o : Option Sort) (eo : sort_number o ≡ sort_at s (n - 1)) (b : Bool)
+      (eb : b ≡ option_eq eq-value.it o wrong) where
+    tested : b ≡ eqb (sort_at s (root s)) (sort_number wrong)
+    tested = eb ∙ same_sort o wrong ∙ ap (λ (k : ℕ). eqb k (sort_number wrong)) (eo ∙ ap (λ (i : ℕ). sort_at s (i - 1)) en)
 
-          module _ (m : ℕ) (d d' : List ℕ) (u : Unfolds s d m d') where
-            -- refused by the size
-            pub large : 120 < m → (r : Expansion) → r ≡ refused_expansion 13 0 → Opens s wrong d r d'
-            unfolding open_refusals Answers
-            large l r e =
-                let many : 120 < expanded_count s =
-                ⊎_elim (λ (g : 120 < base_count s). let a = counted in omega arith) (λ (g : base_count s ≤ 120). absurd (let a = u.count g in let b : ⊥ = omega arith in b)) (side 120 (base_count s)) in
-                rw e (record {
-                  answer = answers_beyond (refusals_to newest s) (drop 9 (open_refusals s wrong)) _ passes (inr (right_root, inl (refl, (refl, many))));
-                  count = λ y. absurd (let a : ⊥ = omega arith in a);
-                  few = λ y. absurd (let a : ⊥ = omega arith in a);
-                  bytes = λ y. absurd (let a : ⊥ = omega arith in a);
-                  refused = λ _. refl;
-                  low = omega arith;
-                })
+    -- refused by the root
+    pub wrong_root_lem : b ≡ true → Opens s (sort_number wrong) d (expansion_by (Err WrongRoot)) d
+    unfolding open_refusals Answers
+    wrong_root_lem t =
+        opens_refused WrongRoot d
+        (answers_beyond (refusals_to newest s) later _ (passes s c n en) (inl (refl, (refl, eqb-true (sort_at s (root s)) (sort_number wrong) (sym tested ∙ t)))))
 
-            -- and opened
-            pub opened : m ≤ 120 → Opens s wrong d (record { verdict = v; count = m }) d'
-            unfolding open_refusals Answers
-            opened l =
-                let few : base_count s ≤ 120 =
-                ⊎_elim (λ (g : 120 < base_count s). absurd (let a = u.over g in let b : ⊥ = omega arith in b)) (λ (g : base_count s ≤ 120). g) (side 120 (base_count s)) in
-                let small : (k : ℕ) → ¬ ((k ≡ 0) × (120 < expanded_count s)) = λ k y. let g = y.1 in let a = counted in omega arith in
-                record {
-                  answer = answers_beyond (refusals_to newest s) (drop 9 (open_refusals s wrong)) v passes (inr (right_root, inr (small, (z, (none_given (refusals_to newest s) tt v z c).1))));
-                  count = λ _. u.count few;
-                  few = λ _. few;
-                  bytes = λ _. u.bytes few;
-                  refused = λ y. absurd (y z);
-                  low = l;
-                }
+    module _ (f : b ≡ false) (d' : List ℕ) where
+      right_root : (k : ℕ) → ¬ ((k ≡ 0) × (sort_at s (root s) ≡ sort_number wrong))
+      right_root k (_, e) = eqb-false (sort_at s (root s)) (sort_number wrong) (sym tested ∙ f) e
+
+      -- refused by the size, or opened
+      pub answered : (r : Option ℕ) → Unfolds s d r d' → Opens s (sort_number wrong) d (expansion_by (ok_or r ManyNodes)) d'
+      unfolding open_refusals Answers
+      answered None u =
+          let many : 120 < expanded_count s =
+          ⊎_elim (λ (g : 120 < base_count s). let a = counted s derived in omega arith) (λ (g : base_count s ≤ 120). absurd (let a = u.count g in let b : ⊥ = cc in b))
+          (side 120 (base_count s)) in
+          opens_refused ManyNodes d' (answers_beyond (refusals_to newest s) later _ (passes s c n en) (inr (right_root, inl (refl, (refl, many)))))
+      answered (Some m) u =
+          let few : base_count s ≤ 120 =
+          ⊎_elim (λ (g : 120 < base_count s). absurd (let a = u.over g in let b : ⊥ = cc in b)) (λ (g : base_count s ≤ 120). g) (side 120 (base_count s)) in
+          let same : m ≡ base_count s = let a = u.count few in cc in
+          let small : (k : ℕ) → ¬ ((k ≡ 0) × (120 < expanded_count s)) = λ k y. let g = y.1 in let a = counted s derived in omega arith in
+          record {
+            answer = answers_beyond (refusals_to newest s) later accepted (passes s c n en) (inr (right_root, inr (small, (refl, refl))));
+            count = λ _. same;
+            few = λ _. few;
+            bytes = λ _. u.bytes few;
+            refused = λ y. absurd (y refl);
+            low = omega arith;
+          }

@@ -1,23 +1,25 @@
 // The expander: refusals first, and then the expansion, a version 3 table written out to base nodes and an older table as it is.
 #![tactic(auto)]
 
-ghost use Rattle.std.specs.Prelude.{◌≡◌, true, ◌≤◌, take};
+ghost use Rattle.std.specs.Prelude.{◌≡◌, true, ◌++◌, ◌≤◌, ◌<◌, drop, MatchResult};
 ghost use Rattle.std.proofs.Math.ListN.{length};
 ghost use Rattle.refusal.specs.Heading.{count};
+ghost use Rattle.refusal.specs.declared.Reason.TheVariants.{SmallOutput};
 ghost use Rattle.nodes.specs.Operators.{sequence};
 ghost use Rattle.nodes.specs.Nodes.{sort_at, root};
-ghost use Rattle.encoding.specs.Encoding.{put};
+ghost use Rattle.nodes.specs.Sorts.{sort_number};
 ghost use Rattle.expansion.specs.Formed.{Formed};
 ghost use Rattle.expand.specs.Expands.{Expands};
-ghost use Rattle.expand.specs.Opens.{has_version3, refused_expansion, Unfolds, Opens};
+ghost use Rattle.expand.specs.Opens.{has_version3, expansion_by, Unfolds, Opens};
 
-use encoding::put_heading;
+use encoding::{TABLE_BYTES, put_heading};
 use firsts::put_booleans;
-use nodes::operators::{NEWEST, NONE};
-use nodes::sort_at;
+use nodes::operators::{NEWEST, Sort};
+use nodes::{SLOTS, sort_at};
+use nodestep::Source;
 use pieces::Piece;
-use refusal::{Verdict, version_of, wide};
-use table::check_to;
+use refusal::{Reason, Verdict, version_of};
+use table::checked;
 use unfold::put_piece;
 
 // What expanding answers: the verdict, and the count of the expansion's nodes.
@@ -28,104 +30,92 @@ pub struct Expansion {
     pub count: usize,
 }
 
-// A refusal, with count 0.
-fn refused(number: u8, node: usize) -> Expansion
-    ensures { result ≡ refused_expansion number node }
-{
-    Expansion {
-        verdict: Verdict { number, node },
-        count: 0,
+impl From<Result<usize, Reason>> for Expansion {
+    ghost from_gives = { λ opened e. e ≡ expansion_by opened };
+
+    // A refusal has count 0.
+    fn from(opened: Result<usize, Reason>) -> Expansion {
+        match opened {
+            Ok(count) => Expansion {
+                verdict: Verdict::ACCEPTED,
+                count,
+            },
+            Err(reason) => Expansion {
+                verdict: Verdict::from(reason),
+                count: 0,
+            },
+        }
     }
 }
 
 // Whether the bytes have a heading of version 3, the one with derived operators.
+#[tactic(auto, unfolding(crate::specs::Opens::has_version3))]
 pub fn has_version_3(b: &[u8]) -> bool
     ensures { result ≡ has_version3 b.now }
 {
-    if b.len() < 6 {
-        return false;
-    }
-    version_of(b) == 3
+    b.len() >= 6 && version_of(b) == 3
 }
 
-// Writes the expansion of the n nodes, whose root is a sequence or a property, and answers its count, or more than 120 where it has more.
-fn unfold(b: &[u8], n: usize, out: &mut [u8]) -> usize
-    requires { Formed b.now n × (n ≡ count b.now) × (1 ≤ n) × (sequence ≤ sort_at b.now (root b.now)) × (486 ≤ length out.old) }
+// Writes the expansion of the n nodes, whose root is a sequence or a property, and answers its count, none where it has more than 120 nodes.
+fn unfold(b: &[u8], n: usize, out: &mut [u8; TABLE_BYTES]) -> Option<usize>
+    requires { Formed b.now n × (n ≡ count b.now) × (1 ≤ n) × (sequence ≤ sort_at b.now (root b.now)) }
     ensures { Unfolds b.now out.old result out.new }
 {
-    let mut numbers = [0; 121];
+    let mut numbers = [0; SLOTS];
     let first = put_booleans(b, n, &mut numbers, out);
-    let m = put_piece(b, n, &numbers, out, Piece::NodeOf(n - 1), first, 0);
-    if m <= 120 {
-        put_heading(out, 2, 0, m);
-    }
-    m
+    let source = Source {
+        bytes: b,
+        count: n,
+        numbers: &numbers,
+    };
+    let m = put_piece(source, out, Piece::NodeOf(n - 1), first, 0)?;
+    put_heading(out, 2, 0, m);
+    Some(m)
 }
 
 // Of a version 3 table: refusals 1 to 9, 12 where the root is of the wrong sort, and 13, the first that applies; with none, its expansion in the first
-// bytes of `new`.
-pub fn open(b: &[u8], wrong: u8, new: &mut [u8]) -> Expansion
-    requires { (has_version3 b.now ≡ true) × (length new.old ≡ 486) }
-    ensures { Opens b.now wrong new.old result new.new }
+// bytes of `new`. With no `wrong` any root will do.
+pub fn open(b: &[u8], wrong: Option<Sort>, new: &mut [u8; TABLE_BYTES]) -> Result<usize, Reason>
+    requires { has_version3 b.now ≡ true }
+    ensures { Opens b.now (sort_number wrong) new.old (expansion_by result) new.new }
 {
-    let v = check_to(b, NEWEST);
-    if v.number != 0 {
-        return refused(v.number, v.node);
-    }
-    let n = wide(b[5]);
+    let n = checked(b, NEWEST)?;
     if sort_at(b, n - 1) == wrong {
-        return refused(12, 0);
+        return Err(Reason::WrongRoot);
     }
-    let m = unfold(b, n, new);
-    if 120 < m {
-        return refused(13, 0);
-    }
-    Expansion {
-        verdict: v,
-        count: m,
-    }
+    unfold(b, n, new).ok_or(Reason::ManyNodes)
 }
 
-// Copies the first n bytes.
-fn copy(from: &[u8], n: usize, out: &mut [u8])
-    requires { (n ≤ length from.now) × (n ≤ length out.old) }
-    ensures { out.new ≡ put out.old 0 (take n from.now) }
+// Copies a table to the start of `out`, if it has room there.
+fn copy_table(table: &[u8], out: &mut [u8]) -> Result<(), Reason>
+    ensures { MatchResult result (λ _. (length table.now ≤ length out.old) × (out.new ≡ table.now ++ drop (length table.now) out.old)) (λ reason. (reason ≡ SmallOutput) × (length out.old < length table.now) × (out.new ≡ out.old)) }
 {
-    let mut i: usize = 0;
-    while i < n {
-        out[i] = from[i];
-        i = i + 1;
+    if out.len() < table.len() {
+        return Err(Reason::SmallOutput);
     }
+    out[..table.len()].copy_from_slice(table);
+    Ok(())
 }
 
-// For any bytes and any output: refusals 1 to 9, 13 and 15, the first that applies; with none, the expansion in the first bytes of `out`, and its count.
+// Refusals 1 to 9, 13 and 15, the first that applies; with none, the expansion in the first bytes of `out`, and its count.
+fn expanded(b: &[u8], out: &mut [u8]) -> Result<usize, Reason>
+    ensures { Expands b.now out.old (expansion_by result) out.new }
+{
+    if has_version_3(b) {
+        let mut new = [0; TABLE_BYTES];
+        let m = open(b, None, &mut new)?;
+        let long = 4 * m + 6;
+        copy_table(&new[..long], out)?;
+        return Ok(m);
+    }
+    let n = checked(b, NEWEST)?;
+    copy_table(b, out)?;
+    Ok(n)
+}
+
+// Expands a table, of any bytes and into any output.
 pub fn expand(b: &[u8], out: &mut [u8]) -> Expansion
     ensures { Expands b.now out.old result out.new }
 {
-    if has_version_3(b) {
-        let mut new = [0; 486];
-        let opened = open(b, NONE, &mut new);
-        let verdict = opened.verdict;
-        if verdict.number != 0 {
-            return opened;
-        }
-        let long = 4 * opened.count + 6;
-        if out.len() < long {
-            return refused(15, 0);
-        }
-        copy(&new, long, out);
-        return opened;
-    }
-    let verdict = check_to(b, NEWEST);
-    if verdict.number != 0 {
-        return refused(verdict.number, verdict.node);
-    }
-    if out.len() < b.len() {
-        return refused(15, 0);
-    }
-    copy(b, b.len(), out);
-    Expansion {
-        verdict,
-        count: wide(b[5]),
-    }
+    Expansion::from(expanded(b, out))
 }

@@ -7,7 +7,7 @@ use Prim.Native.Nat.{ℕ, ◌+◌, ◌<◌, ◌≤◌}
 use lib.Dec.{T}
 use Rattle.telling.proofs.Telling.{is_and, is_le, is_lt, side}
 use Rattle.refusal.specs.Heading.{version}
-use Rattle.nodes.specs.declared.operators.Row.{Row}
+use Rattle.nodes.specs.Operators.{Row}
 use Rattle.nodes.specs.declared.Raw.{Raw}
 use Rattle.nodes.specs.Operators.{none, sequence, base, row_of}
 use Rattle.nodes.specs.Nodes.{raw_at, sort_at, Operand, KnownIn, WellFormed}

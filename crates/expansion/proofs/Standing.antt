@@ -9,7 +9,7 @@ use Prim.Native.Nat.{ℕ, ◌+◌, ◌≤◌}
 use lib.Dec.{T, leb, ltb}
 use Rattle.meaning.specs.Syntax.{Bexp, Seq, one, cat, fuse, alt, empty, plus, clocked, Prop, strong, weak, neg, either, both, implies, next, until, under}
 use Rattle.meaning.specs.Pairs.{Atom}
-use Rattle.nodes.specs.declared.operators.Row.{Row}
+use Rattle.nodes.specs.Operators.{Row}
 use Rattle.nodes.specs.Operators.{none, boolean, sequence, property, base, operators, lookup, row_of, node_of, bytes}
 use Rattle.nodes.specs.Nodes.{node_at}
 use Rattle.nodes.proofs.Fits.{Lower}

@@ -9,7 +9,7 @@ use lib.Dec.{T, eqb, leb}
 use Rattle.telling.proofs.Telling.{is_and, is_eq, is_le}
 use Rattle.meaning.specs.Syntax.{Bexp, const, nott}
 use Rattle.meaning.specs.Pairs.{Atom}
-use Rattle.nodes.specs.declared.operators.Row.{Row}
+use Rattle.nodes.specs.Operators.{Row}
 use Rattle.nodes.specs.declared.Raw.{Raw}
 use Rattle.nodes.specs.declared.Node.{Node}
 use Rattle.nodes.specs.declared.Node.TheVariants.{Boolean, Sequence, Property}

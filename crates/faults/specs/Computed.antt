@@ -2,7 +2,7 @@
 -- and 7 is held to. `table/proofs/` has that they tell what the page says: `fits_tells`, `astray_tells`. Assumes nothing.
 use Rattle.std.specs.Prelude.{◌≡◌, Bool, not, cond, ◌&&◌, ◌||◌, List, ℕ, ◌+◌, ◌/◌, ◌%◌, ◌<◌, ltb, leb, eqb, get_or}
 use Rattle.refusal.specs.Heading.{version}
-use Rattle.nodes.specs.declared.operators.Row.{Row}
+use Rattle.nodes.specs.Operators.{Row}
 use Rattle.nodes.specs.Operators.{none, sequence, zero_byte, range_byte, count_byte}
 use Rattle.nodes.specs.Nodes.{raw_at, row_at, sort_at, uses_of}
 use Rattle.nodes.specs.Computed.{named_by}

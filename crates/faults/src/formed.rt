@@ -1,75 +1,72 @@
 // Refusal 6: the lowest node that is not well formed.
 ghost use Rattle.std.specs.Prelude.{◌≡◌, ◌+◌, ◌*◌, ◌≤◌, length};
-ghost use Rattle.refusal.specs.Computed.{first};
+ghost use Rattle.refusal.specs.Computed.{found};
+ghost use Rattle.nodes.specs.Sorts.{operand_sort, operand_limit, fourth_number, row_numbers};
 ghost use Rattle.faults.specs.Computed.{operand_fits, fourth_fits, is_known_in, node_fits, unfit};
 
-use nodes::operators::{COUNT, NONE, RANGE, Row, ZERO, row_of};
+use nodes::operators::{FourthByte, Operand, Row, row_of};
 use nodes::{node_at, sort_at};
-use refusal::{version_of, wide};
+use refusal::version_of;
 
 // Whether v serves as an operand byte of node k: a plain byte below the limit, or the index of a lower node of the sort.
-fn operand(b: &[u8], k: usize, sort: u8, limit: u8, v: u8) -> bool
+#[tactic(auto, unfolding(crate::specs::Computed::operand_fits))]
+fn operand(b: &[u8], k: usize, kind: Operand, v: u8) -> bool
     requires { 4 * k + 10 ≤ length b.now }
-    ensures { result ≡ operand_fits b.now k sort limit v }
+    ensures { result ≡ operand_fits b.now k (operand_sort kind) (operand_limit kind) v }
 {
-    if sort == NONE {
-        return v < limit;
+    match kind {
+        Operand::Below(limit) => v < limit,
+        Operand::Node(sort) => {
+            let i = usize::from(v);
+            i < k && sort_at(b, i) == Some(sort)
+        }
     }
-    let i = wide(v);
-    if i < k { sort_at(b, i) == sort } else { false }
 }
 
 // Whether v serves as a fourth byte of that kind.
-fn fourth_fits(kind: u8, v: u8) -> bool
-    ensures { result ≡ fourth_fits kind v }
+#[tactic(auto, unfolding(crate::specs::Computed::fourth_fits))]
+fn fourth_fits(kind: FourthByte, v: u8) -> bool
+    ensures { result ≡ fourth_fits (fourth_number kind) v }
 {
-    ((kind != ZERO) | (v == 0))
-        & (((kind != RANGE) | (v % 16 <= v / 16)) & ((kind != COUNT) | (v <= 15)))
+    match kind {
+        FourthByte::Zero => v == 0,
+        FourthByte::Range => v % 16 <= v / 16,
+        FourthByte::Count => v <= 15,
+    }
 }
 
 // Whether the operator of the row is known in the version.
 fn known_in(r: Row, version: usize) -> bool
-    ensures { result ≡ is_known_in r version }
+    ensures { result ≡ is_known_in (row_numbers r) version }
 {
-    (wide(r.first) <= version) & (version <= wide(r.last))
+    (usize::from(r.first)..=usize::from(r.last)).contains(&version)
 }
 
 // Whether node k is well formed in a table of the version.
+#[tactic(auto, unfolding(crate::specs::Computed::node_fits, nodes::specs::Nodes::sort_at))]
 fn node_fits(b: &[u8], version: usize, k: usize) -> bool
     requires { 4 * k + 10 ≤ length b.now }
     ensures { result ≡ node_fits b.now version k }
 {
     let n = node_at(b, k);
     let r = row_of(n.op);
-    if r.own == NONE {
-        return false;
-    }
-    if !known_in(r, version) {
-        return false;
-    }
-    if !fourth_fits(r.fourth, n.fourth) {
-        return false;
-    }
-    if operand(b, k, r.x, r.limit, n.x) {
-        operand(b, k, r.y, 1, n.y)
-    } else {
-        false
-    }
+    r.own.is_some()
+        && known_in(r, version)
+        && fourth_fits(r.fourth, n.fourth)
+        && operand(b, k, r.x, n.x)
+        && operand(b, k, r.y, n.y)
 }
 
-// The lowest node below n that is not well formed, or n.
-pub fn first_unfit(b: &[u8], n: usize) -> usize
+// The lowest node below n that is not well formed.
+pub fn first_unfit(b: &[u8], n: usize) -> Option<usize>
     requires { 4 * n + 6 ≤ length b.now }
-    ensures { result ≡ first (unfit b.now) 0 n }
+    ensures { result ≡ found (unfit b.now) n }
 {
     let version = version_of(b);
-    let mut k: usize = 0;
-    while k < n {
-        if node_fits(b, version, k) {
-            k = k + 1;
-        } else {
-            return k;
+    for k in 0..n {
+        if !node_fits(b, version, k) {
+            return Some(k);
         }
     }
-    n
+    None
 }

@@ -1,4 +1,4 @@
--- One node more of the pass: its number is stored, and what it gives is put. Assumes nothing.
+-- The pass, node by node: the number of node k is stored, and what it gives is put. Assumes nothing.
 use native.Mathlib.Omega.{arith}
 use native.Mathlib.Nat.{not-suc-le-zero, eq-or-lt_of_le}
 use native.Mathlib.Numerals.{add-one}
@@ -16,60 +16,45 @@ use Rattle.expansion.specs.Formed.{NumberedBelow}
 use Rattle.firsts.specs.Firsts.{FirstsPut}
 
 -- none
-module _ (s : List ℕ) where
-  pub none_counted : ◌≡◌ {A = ℕ} 0 (number_of s 0)
-  unfolding number_of
-  none_counted = refl
+pub no_firsts : (s d numbers : List ℕ) → length numbers ≡ 121 → FirstsPut s 0 d 0 numbers d
+unfolding number_of booleans_below encoded
+no_firsts s d numbers e = record {
+  count = refl;
+  numbered = record { size = e; right = λ j l. absurd (not-suc-le-zero l) };
+  bytes = put_none d 6;
+}
 
-  pub none_numbered : (numbers : List ℕ) → length numbers ≡ 121 → NumberedBelow s 0 numbers
-  none_numbered numbers e = record { size = e; right = λ j l. absurd (not-suc-le-zero l) }
-
-  pub nothing_put : (d : List ℕ) → d ≡ put d 6 (encoded (booleans_below s 0))
-  unfolding booleans_below encoded
-  nothing_put d = put_none d 6
-
-module _ (s : List ℕ) (k : ℕ) where
+module _ (s : List ℕ) (k : ℕ) (d : List ℕ) (at : ℕ) (numbers out : List ℕ) (h : FirstsPut s k d at numbers out) (n : ℕ) (l : k < n) (few : n ≤ 120) where
   -- the number of a node is below 120
-  pub room : (n at : ℕ) → k < n → n ≤ 120 → at ≡ number_of s k → at < 120
-  room n at l few e = let b = number_le s k in omega arith
+  pub room : at < 120
+  room = let e = h.count in let b = number_le s k in omega arith
 
-  pub small : (n at : ℕ) → k < n → n ≤ 120 → at ≡ number_of s k → at < 256
-  small n at l few e = let b = room n at l few e in omega arith
+  -- that of node k is stored
+  pub stored : NumberedBelow s k (set numbers k at)
+  stored = record {
+    size = simp length-set h.numbered.size;
+    right = λ j m. get_or-set_other numbers k j at 0 (λ e. omega arith) ∙ h.numbered.right j m;
+  }
 
-  -- the number of node k is stored
-  module _ (numbers : List ℕ) (h : NumberedBelow s k numbers) (v : ℕ) where
-    pub stays : NumberedBelow s k (set numbers k v)
-    stays = record { size = simp length-set h.size; right = λ j l. get_or-set_other numbers k j v 0 (λ e. omega arith) ∙ h.right j l }
-
-    pub numbered_more : (n at : ℕ) → k < n → n ≤ 120 → at ≡ number_of s k → v ≡ at → NumberedBelow s (k + 1) (set numbers k v)
-    numbered_more n at l few ea e = record {
-      size = stays.size;
+  -- and what it gives is put
+  pub more_firsts : 486 ≤ length d → (r : ℕ) → r ≡ at + length (given_at s k) → (out' : List ℕ) → out' ≡ put out (4 * at + 6) (encoded (given_at s k))
+      → FirstsPut s (k + 1) d r (set numbers k at) out'
+  unfolding number_of booleans_below
+  more_firsts long r er out' eo = record {
+    count = rw (add-one k) (simp length-map at (er ∙ ap (λ (a : ℕ). a + length (given_at s k)) h.count));
+    numbered = record {
+      size = stored.size;
       right =
           λ j m.
-          ⊎_elim (λ (z : j ≡ k). rw z (get_or-set_same numbers k v 0 (let q = h.size in omega arith) ∙ e ∙ ea)) (λ (i : j < k). stays.right j i)
+          ⊎_elim (λ (z : j ≡ k). rw z (get_or-set_same numbers k at 0 (let q = h.numbered.size in omega arith) ∙ h.count)) (λ (i : j < k). stored.right j i)
           (eq-or-lt_of_le (let q : j ≤ k = omega arith in q));
-    }
-
-  -- what node k gives is put
-  module _ (at : ℕ) (ea : at ≡ number_of s k) where
-    pub counted_more : (r : ℕ) → r ≡ at + length (given_at s k) → r ≡ number_of s (k + 1)
-    unfolding number_of
-    counted_more r e = rw (add-one k) (simp length-map at (e ∙ ap (λ (a : ℕ). a + length (given_at s k)) ea))
-
-    pub put_all : (n : ℕ) → k < n → n ≤ 120 → (d : List ℕ) → 486 ≤ length d → (out : List ℕ) → out ≡ put d 6 (encoded (booleans_below s k))
-        → (out' : List ℕ) → out' ≡ put out (4 * at + 6) (encoded (given_at s k)) → out' ≡ put d 6 (encoded (booleans_below s (k + 1)))
-    unfolding booleans_below
-    put_all n l few d room out e out' e' =
+    };
+    bytes =
         let us = booleans_below s k in
         let t = length-booleans s k in
-        let b = number_le s k in
+        let e = h.count in
+        let b = room in
         let a : at ≡ 0 + length us = omega arith in
-        let p = put_more d out 0 us e (omega arith) (encoded (given_at s k)) in
-        e' ∙ rw (a, add-one k) (p ∙ ap (put d 6) (sym (encoded-append us (given_at s k))))
-
--- all of them
-pub all_put : (s : List ℕ) (n k : ℕ) → k ≤ n → n ≤ k → (at : ℕ) → at ≡ number_of s k → (numbers : List ℕ) → NumberedBelow s k numbers
-    → (d out : List ℕ) → out ≡ put d 6 (encoded (booleans_below s k)) → FirstsPut s n d at numbers out
-all_put s n k l m at ea numbers h d out e =
-    let z : k ≡ n = omega arith in
-    rw (← z) (record { count = ea; numbered = h; bytes = e })
+        let p = put_more d out 0 us h.bytes (omega arith) (encoded (given_at s k)) in
+        eo ∙ rw (a, add-one k) (p ∙ ap (put d 6) (sym (encoded-append us (given_at s k))));
+  }

@@ -13,8 +13,6 @@ use lib.ListN.{length, length-append, take, get_or, set, replicate, get_or-eq_de
 use lib.Seq.{get_or_at, take-suc-set, get_or-take, get_or-set_other}
 use Rattle.telling.proofs.Telling.{side}
 use Rattle.telling.proofs.Filled.{filled}
-use Rattle.refusal.specs.Computed.{first}
-use Rattle.refusal.proofs.Firsts.{on, found}
 use Rattle.nodes.specs.declared.Raw.{Raw}
 use Rattle.nodes.specs.declared.Node.{Node}
 use Rattle.hollows.specs.declared.Tops.{Tops}
@@ -82,16 +80,9 @@ module _ (s : List ℕ) (n k : ℕ) (h : k < n) (few : n ≤ 120) (done : List T
         let right : get_or done q nothing ≡ tops_at (tops_below s k) (raw_at s k).y = rw (eq, ew) (kept (raw_at s k).y) in
         rw (add-one k, take-suc-set done k a l, e, d, node, left, right)
 
-    module _ (i : first (hollow s) 0 n ≡ first (hollow s) k n) (t : Bool) (e : t ≡ hollow_node v (get_or done p nothing)) where
-      looked : t ≡ hollow s k
-      unfolding hollow
-      looked = e ∙ rw (node, left)
-
-      pub solid : t ≡ false → first (hollow s) 0 n ≡ first (hollow s) (k + 1) n
-      solid = on (hollow s) k n i h t looked
-
-      pub hollows : t ≡ true → k ≡ first (hollow s) 0 n
-      hollows = found (hollow s) k n i h t looked
+    pub looked : (t : Bool) → t ≡ hollow_node v (get_or done p nothing) → t ≡ hollow s k
+    unfolding hollow
+    looked t e = e ∙ rw (node, left)
 
 -- nothing is kept past the node whose flags came last
 pub still : (k : ℕ) (done : List Tops) → ((j : ℕ) → k ≤ j → get_or done j nothing ≡ nothing) → (a : Tops) (j : ℕ) → k + 1 ≤ j → get_or (set done k a) j nothing ≡ nothing

@@ -3,11 +3,11 @@
 #![tactic(auto)]
 
 ghost use Rattle.std.specs.Prelude.{◌≡◌, ◌+◌, ◌*◌, ◌≤◌, length};
-ghost use Rattle.refusal.specs.Computed.{first};
+ghost use Rattle.refusal.specs.Computed.{found};
 ghost use Rattle.hollows.specs.Flags.{then_tops, fused_tops, either_tops, range_tops, later_tops, delay_tops, derived_tops, sequence_tops, node_tops, hollow_derived, hollow_property, hollow_node, hollow};
 
 use nodes::{
-    DerivedProperty, DerivedSequence, Node, PropertyOp, SequenceOp, decode, named, node_at,
+    DerivedProperty, DerivedSequence, Node, PropertyOp, SLOTS, SequenceOp, named, node_at,
 };
 
 // What a sequence matches of a word of letters ⊤ alone: no letter; some letters, one or more.
@@ -84,6 +84,7 @@ fn later_tops(m: usize, n: usize, x: Tops, y: Tops) -> Tops
 }
 
 // Of x ##[m:n] y.
+#[tactic(auto, unfolding(crate::specs::Flags::delay_tops))]
 fn delay_tops(m: usize, n: usize, x: Tops, y: Tops) -> Tops
     ensures { result ≡ delay_tops m n x y }
 {
@@ -98,6 +99,7 @@ fn delay_tops(m: usize, n: usize, x: Tops, y: Tops) -> Tops
 }
 
 // Of a derived sequence, as it is expanded, at any counts.
+#[tactic(auto, unfolding(crate::specs::Flags::derived_tops))]
 fn derived_tops(q: DerivedSequence, x: Tops, y: Tops) -> Tops
     ensures { result ≡ derived_tops q x y }
 {
@@ -116,6 +118,7 @@ fn derived_tops(q: DerivedSequence, x: Tops, y: Tops) -> Tops
 }
 
 // Of a sequence, by its kind and what its operands x and y match.
+#[tactic(auto, unfolding(crate::specs::Flags::sequence_tops))]
 fn sequence_tops(q: SequenceOp, x: Tops, y: Tops) -> Tops
     ensures { result ≡ sequence_tops q x y }
 {
@@ -190,23 +193,21 @@ fn is_hollow(v: Node, x: Tops) -> bool
     }
 }
 
-// The lowest such node below n, or n: one pass, with the flags of the nodes below.
-pub fn first_hollow(b: &[u8], n: usize) -> usize
+// The lowest such node below n: one pass, with the flags of the nodes below.
+pub fn first_hollow(b: &[u8], n: usize) -> Option<usize>
     requires { (n ≤ 120) × (4 * n + 6 ≤ length b.now) }
-    ensures { result ≡ first (hollow b.now) 0 n }
+    ensures { result ≡ found (hollow b.now) n }
 {
-    let mut done = [NOTHING; 121];
-    let mut k: usize = 0;
-    while k < n {
+    let mut done = [NOTHING; SLOTS];
+    for k in 0..n {
         let raw = node_at(b, k);
-        let v = decode(raw);
+        let v = Node::from(raw);
         let x = done[named(raw.x)];
         let y = done[named(raw.y)];
         if is_hollow(v, x) {
-            return k;
+            return Some(k);
         }
         done[k] = node_tops(v, x, y);
-        k = k + 1;
     }
-    n
+    None
 }

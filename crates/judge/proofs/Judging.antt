@@ -5,15 +5,14 @@ use mir.Syntax.{w64}
 use mir.Val as M
 use mathlib.Core.Path.{◌≡◌, refl, ◌∙◌, sym, ap, subst}
 use mathlib.Core.Logic.{inl, inr, ⊎_elim}
-use mathlib.Core.Bool.{Bool, false}
+use mathlib.Core.Bool.{Bool}
 use mathlib.Core.List.{List, ◌∷◌, ◌++◌}
 use Prim.Native.Nat.{ℕ, ◌+◌, ◌*◌, ◌-◌, ◌<◌, ◌≤◌}
 use lib.ListN.{length, take, drop}
 use Rattle.telling.specs.Tells.{Tells}
 use Rattle.telling.proofs.Telling.{is_map, is_as}
 use Rattle.positions.specs.declared.PositionSet.{PositionSet}
-use Rattle.positions.specs.Member.{has, Is}
-use Rattle.positions.proofs.Laws.{has_none, unique}
+use Rattle.positions.specs.Member.{has}
 use Rattle.refusal.specs.declared.Verdict.{Verdict}
 use Rattle.refusal.specs.First.{Refusal, Answers, NotGiven}
 use Rattle.refusal.specs.Heading.{count}
@@ -59,7 +58,8 @@ use Rattle.judgement.specs.Refusals.{wrong_root}
 use Rattle.settling.specs.Refusals.{judge_refusals, ends_refusals}
 use Rattle.settling.specs.Computed.{own_refusals, settling, Settles}
 use Rattle.judge.specs.Judges.{Rowed, Judges, EndsMatches}
-use Rattle.judge.specs.Computed.{Lays}
+use Rattle.judge.specs.declared.MatchEnds.{MatchEnds}
+use Rattle.judge.specs.Computed.{NoEnds, Lays}
 use Rattle.settling.proofs.Passing.{ends_rest, own_parts, table_built, few_nodes, count_is_new, new_keeps, new_accepted}
 use Rattle.judge.proofs.Meaning.{rows_ready, rows_mean}
 use Rattle.judge.proofs.TestedSets.{tested_means, testing}
@@ -92,11 +92,11 @@ judge_refused s xs d lent r new d' w z q h = record {
 }
 
 pub ends_refused : (s xs d : List ℕ) (start : ℕ) (lent : List ℕ) (r : Renumbered) (new d' : List ℕ) → Lays s property xs start d lent r new d' → ¬ (r.verdict.number ≡ 0)
-    → (mask : PositionSet) → Is mask.bits (λ k. false) → EndsMatches s xs d start (record { verdict = r.verdict; mask = mask; top = false }) d'
-ends_refused s xs d start lent r new d' w z mask em = record {
-  answer = ends_answer s (length xs) start (length d) r.verdict w.settles.answer;
-  accepted = λ y. absurd (z y);
-  refused = λ _. (unique mask.bits 0 (λ k. false) em has_none, refl, w.stays z);
+    → (q : MatchEnds) → NoEnds r.verdict q → EndsMatches s xs d start q d'
+ends_refused s xs d start lent r new d' w z q h = record {
+  answer = rw h.verdict (ends_answer s (length xs) start (length d) r.verdict w.settles.answer);
+  accepted = λ y. absurd (z (ap (λ (v : Verdict). v.number) (sym h.verdict) ∙ y));
+  refused = λ _. (h.mask, h.top, w.stays z);
 }
 
 -- ---- an acceptance
@@ -290,9 +290,6 @@ module _ (s : List ℕ) (wrong : ℕ) (xs : List ℕ) (start : ℕ) (d lent : Li
 
   pub tested_there : Testing s r.clocks r.numbers d' (length xs)
   tested_there = sets_there s wrong (length xs) start (length d) lent r new w.settles z xs d refl refl d' (w.rows z)
-
-  pub table_counted : 5 < length s
-  table_counted = let l = (built s wrong (length xs) start (length d) lent r new w.settles z).long in omega arith
 
 pub judge_accepted : (s xs d lent : List ℕ) (r : Renumbered) (new d' : List ℕ) → Lays s sequence xs 0 d lent r new d' → r.verdict.number ≡ 0
     → (level : Level) → level.number ≡ level_in d' (r.count - 1) → (b : Bool) → b ≡ tested_in s r.clocks r.numbers d' (length xs)

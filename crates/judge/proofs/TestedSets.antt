@@ -6,9 +6,10 @@ use mathlib.Core.List.{List}
 use mathlib.Core.Logic.{⊎_elim}
 use Prim.Native.Nat.{ℕ, suc, ◌*◌, ◌≤◌, ◌<◌}
 use native.Mathlib.Omega.{arith}
-use borrow.Author.Tests.{lt-ltb, ne_eqb}
-use lib.Dec.{T, eqb, leb}
+use borrow.Author.Tests.{lt-ltb}
+use lib.Dec.{T, leb}
 use lib.ListN.{length, get_or}
+use Rattle.std.specs.Prelude.{Option, Some, None}
 use Rattle.telling.specs.Tells.{Tells, some}
 use Rattle.telling.proofs.Telling.{is_map, is_as, is_like, is_false, is_lt, is_some, is_test, passed, side}
 use Rattle.positions.specs.Member.{has}
@@ -46,13 +47,13 @@ use Rattle.clocks.proofs.HandingDown.{versions}
 use Rattle.numbers.specs.Numbers.{new_count, number_of}
 use Rattle.numbers.specs.Computed.{Numbered}
 use Rattle.writing.specs.Tables.{new_table}
-use Rattle.writing.proofs.Passes.{byte_free, byte_on, number_of_lem, clock_is, condition}
+use Rattle.writing.proofs.Passes.{number_of_lem, clock_is, clock_free, clock_on}
 use Rattle.rewrite.proofs.Ordering.{stands_in}
 use Rattle.rewrite.proofs.Trees as Trees
 use Rattle.cells.specs.Shares.{share, longest, bit_in, HasRow}
 use Rattle.cells.specs.Bits.{last_letter, starts_into}
 use Rattle.cells.specs.Stored.{set64}
-use Rattle.tested.specs.Computed.{Standing, is_tick, next_tested, implies_tested, letter_matches, node_tested, standing_of, set_from, sets_below, tested_in, clock_there, node_there, Testing}
+use Rattle.tested.specs.Computed.{Standing, clock_row, is_tick, next_tested, implies_tested, letter_matches, node_tested, standing_of, set_from, sets_below, tested_in, clock_there, node_there, Testing}
 use Rattle.tested.proofs.Setting.{set_below}
 use Rattle.ticking.specs.Ticks.{second_tick}
 use Rattle.rowmeaning.specs.Sets.{TestedBy}
@@ -62,7 +63,7 @@ use Rattle.rowmeaning.proofs.SequenceRules.{longer_tells}
 use Rattle.rowmeaning.proofs.TestedRules.{strong_tested, weak_tested, not_tested, or_tested, and_tested, implies_tested_lem, letter_tested, next_tested_lem, tick_tested_lem, until_tested_lem, under_tested}
 use Rattle.judge.specs.Rows.{Filled}
 
-module _ (s clocks numbers : List ℕ) (ok : Built s) (h : Numbered s clocks numbers) (xs d ws : List ℕ) (rows : Filled (new_table s (clock_by clocks)) xs d ws)
+module _ (s : List ℕ) (clocks : List (Option ℕ)) (numbers : List ℕ) (ok : Built s) (h : Numbered s clocks numbers) (xs d ws : List ℕ) (rows : Filled (new_table s (clock_by clocks)) xs d ws)
     (counted : count (new_table s (clock_by clocks)) ≡ new_count s (clock_by clocks)) (short : length (pairs xs) ≤ longest) where
   abbrev nodes : ℕ → Node
   nodes = node_at s
@@ -148,26 +149,23 @@ module _ (s clocks numbers : List ℕ) (ok : Built s) (h : Numbered s clocks num
 
   -- ---- clocks and ticks
 
-  -- the byte of a clock, and what is chosen by it
-  free_byte : {k : ℕ} → Has k free_r → eqb (get_or clocks k 0) 255 ≡ true
-  free_byte {k} hk = byte_free (get_or clocks k 0) (clock_is s clocks numbers h k hk.0 ∙ hk.1)
+  -- the row of a clock's condition, and what is chosen by it
+  free_clock : {k : ℕ} → Has k free_r → (at k).clock ≡ None
+  free_clock {k} hk = clock_free s clocks numbers h k hk.0 hk.1
 
-  on_byte : {k c : ℕ} → Has k (on_r c) → eqb (get_or clocks k 0) 255 ≡ false
-  on_byte {k} {c} hk = byte_on (get_or clocks k 0) c (clock_is s clocks numbers h k hk.0 ∙ hk.1)
+  on_clock : {k c : ℕ} → Has k (on_r c) → (at k).clock ≡ Some (ν c)
+  on_clock {k} {c} hk = clock_on s clocks numbers h k hk.0 c hk.1
 
-  abbrev tick_tested : ℕ → (ℕ → Bool) → ℕ → Bool
-  tick_tested k X = second_tick (is_tick ws n (at k).clock (at k).condition) n false X
+  next_free : {k : ℕ} {P : Prop Atom} (X : ℕ → Bool) → Has k free_r → By free P (λ i. X (suc i)) → By free P (next_tested ws n (at k).clock X)
+  next_free {k} {P} X hk b = subst (λ (o : Option ℕ). By free P (next_tested ws n o X)) (sym (free_clock hk)) b
 
-  next_free : {k : ℕ} {P : Prop Atom} (X : ℕ → Bool) → Has k free_r → By free P (λ i. X (suc i)) → By free P (next_tested ws n (at k).clock (at k).condition X)
-  next_free {k} {P} X hk b = subst (λ (t : Bool). By free P (λ i. cond t (X (suc i)) (tick_tested k X i))) (sym (free_byte hk)) b
+  next_on : {k c : ℕ} {κ : Clock Atom} {P : Prop Atom} (X : ℕ → Bool) → Has k (on_r c) → By κ P (second_tick (is_tick ws n (Some (ν c))) n false X) → By κ P (next_tested ws n (at k).clock X)
+  next_on {k} {κ = κ} {P = P} X hk b = subst (λ (o : Option ℕ). By κ P (next_tested ws n o X)) (sym (on_clock hk)) b
 
-  next_on : {k c : ℕ} {κ : Clock Atom} {P : Prop Atom} (X : ℕ → Bool) → Has k (on_r c) → By κ P (tick_tested k X) → By κ P (next_tested ws n (at k).clock (at k).condition X)
-  next_on {k} {κ = κ} {P = P} X hk b = subst (λ (t : Bool). By κ P (λ i. cond t (X (suc i)) (tick_tested k X i))) (sym (on_byte hk)) b
-
-  tick_free : {k : ℕ} → Has k free_r → (j : ℕ) → Tells (is_tick ws n (at k).clock (at k).condition j) (T (inside (w j)) × T (counts reading free (w j)))
+  tick_free : {k : ℕ} → Has k free_r → (j : ℕ) → Tells (is_tick ws n (at k).clock j) (T (inside (w j)) × T (counts reading free (w j)))
   unfolding counts
   tick_free {k} hk j =
-      rw (free_byte hk)
+      rw (free_clock hk)
       (is_map (is_lt j n) (λ l. (word-inside (pairs xs) none j l, tt)) (λ q. inside_none reading (pairs xs) j q.0))
 
   -- the row of a boolean at c
@@ -178,16 +176,16 @@ module _ (s clocks numbers : List ℕ) (ok : Built s) (h : Numbered s clocks num
       (⊎_elim (λ u. is_as (row.bits j u) (is_test (satisfies reading (w j) b)))
       (λ u. is_as (row.past j u) (is_false (λ t. let v = satisfies_in reading b (pairs xs) j t in absurd (omega arith)))) (side j n))
 
-  tick_on : {k c : ℕ} {b : Bexp Atom} → Has k (on_r c) → BooleanAt nodes c b → (j : ℕ) → Tells (is_tick ws n (at k).clock (at k).condition j) (T (satisfies reading (w j) b))
-  tick_on {k} {c} hk q j =
-      rw (on_byte hk)
-      (satisfied (clock_boolean s ok clock right k c hk.1).0 q (at k).condition (condition s clocks numbers h k hk.0 c (clock_is s clocks numbers h k hk.0 ∙ hk.1)) j)
+  tick_on : {k c : ℕ} {b : Bexp Atom} → Has k (on_r c) → BooleanAt nodes c b → (j : ℕ) → Tells (is_tick ws n (Some (ν c)) j) (T (satisfies reading (w j) b))
+  tick_on {k} {c} hk q j = satisfied (clock_boolean s ok clock right k c hk.1).0 q (ν c) refl j
 
   -- for until, whatever the clock
-  tick : {k : ℕ} {ρ : Ref} {κ : Clock Atom} → Has k ρ → ClockAt nodes ρ κ → (j : ℕ) → Tells (is_tick ws n (at k).clock (at k).condition j) (T (inside (w j)) × T (counts reading κ (w j)))
+  tick : {k : ℕ} {ρ : Ref} {κ : Clock Atom} → Has k ρ → ClockAt nodes ρ κ → (j : ℕ) → Tells (is_tick ws n (at k).clock j) (T (inside (w j)) × T (counts reading κ (w j)))
   unfolding counts
   tick hk c_free j = tick_free hk j
-  tick hk (c_on {b = b} q) j = is_map (tick_on hk q j) (λ t. (word-inside (pairs xs) none j (satisfies_in reading b (pairs xs) j t), t)) (λ z. z.1)
+  tick hk (c_on {b = b} q) j =
+      rw (on_clock hk)
+      (is_map (tick_on hk q j) (λ t. (word-inside (pairs xs) none j (satisfies_in reading b (pairs xs) j t), t)) (λ z. z.1))
 
   -- ---- the left side of `|->`
 
@@ -209,10 +207,10 @@ module _ (s clocks numbers : List ℕ) (ok : Built s) (h : Numbered s clocks num
       (λ i.
       is_as (ap (λ (u : ℕ). has u i) (own_is hx.0 e _ _ refl refl))
       (in_word (letter_matches ws (at x) (Letter c)) i (λ t. let l = satisfies_in reading _ (pairs xs) i t in omega arith)
-      (is_as (rw (free_byte hx) (and-true (bit_in ws (at x).a 0 i))) (satisfied inside q (at x).a a-is i))))
+      (is_as (rw (free_clock hx) (and-true (bit_in ws (at x).a 0 i))) (satisfied inside q (at x).a a-is i))))
       p
   lettered {x} (s_one {x = c} e q) hx (c_on b) t p =
-      absurd (empty_set e hx.0 (λ i. rw (on_byte hx) (and-false (bit_in ws (at x).a 0 i))) t)
+      absurd (empty_set e hx.0 (λ i. rw (on_clock hx) (and-false (bit_in ws (at x).a 0 i))) t)
   lettered (s_cat e q z) hx c t p = absurd (empty_set e hx.0 (λ i. refl) t)
   lettered (s_fuse e q z) hx c t p = absurd (empty_set e hx.0 (λ i. refl) t)
   lettered (s_alt e q z) hx c t p = absurd (empty_set e hx.0 (λ i. refl) t)
@@ -296,7 +294,7 @@ module _ (s clocks numbers : List ℕ) (ok : Built s) (h : Numbered s clocks num
 
 -- ---- the rows that the code asks for are there
 
-module _ (s clocks numbers : List ℕ) (ok : Built s) (h : Numbered s clocks numbers) (ws : List ℕ) (enough : share * new_count s (clock_by clocks) ≤ length ws) where
+module _ (s : List ℕ) (clocks : List (Option ℕ)) (numbers : List ℕ) (ok : Built s) (h : Numbered s clocks numbers) (ws : List ℕ) (enough : share * new_count s (clock_by clocks) ≤ length ws) where
   abbrev there : ℕ → Type 0
   there = HasRow (length ws)
 
@@ -307,14 +305,15 @@ module _ (s clocks numbers : List ℕ) (ok : Built s) (h : Numbered s clocks num
       subst (λ (v : ℕ). there (get_or numbers (named_by v) 0)) e (rw (number_of_lem s clocks numbers h x (omega arith)) (omega arith))
 
   -- of the condition of its clock
-  clock-there : (k : ℕ) → k < count s → clock_there (length ws) (standing_of s clocks numbers k).clock (standing_of s clocks numbers k).condition
-  unfolding ref_of
-  clock-there k l z =
-      let c = get_or clocks k 0 in
-      let e : ref_of c ≡ on_r c = rw (ne_eqb c 255 z) in
-      let (b, _) = clock_boolean s ok (clock_by clocks) h.timed.right k c (sym (clock_is s clocks numbers h k l) ∙ e) in
-      let m = stands_in s (clock_by clocks) ok.fit c b in
-      rw (condition s clocks numbers h k l c e) (omega arith)
+  clock-there : (k : ℕ) → k < count s → clock_there (length ws) (standing_of s clocks numbers k).clock
+  clock-there k l = go (get_or clocks k None) refl
+    where
+      go : (o : Option ℕ) → get_or clocks k None ≡ o → clock_there (length ws) (clock_row numbers o)
+      go None e = tt
+      go (Some c) e =
+          let (b, _) = clock_boolean s ok (clock_by clocks) h.timed.right k c (sym (clock_is s clocks numbers h k l) ∙ ap ref_of e) in
+          let m = stands_in s (clock_by clocks) ok.fit c b in
+          rw (number_of_lem s clocks numbers h c b) (omega arith)
 
   node_there_lem : (k : ℕ) → k < count s → (v : Node) → node_at s k ≡ v → Formed (Suits s k) v → node_there (length ws) (standing_of s clocks numbers k) v
   unfolding bytes_of sequence_bytes property_bytes
@@ -347,8 +346,6 @@ module _ (s clocks numbers : List ℕ) (ok : Built s) (h : Numbered s clocks num
         bytes = omega arith;
         some = ok.some;
         few = ok.few;
-        timed = h.timed.size;
-        numbered = h.size;
         ready = λ k u. node_there_lem k u (node_at s k) refl (down s k (ok.fit k u) refl);
         short = short;
       }

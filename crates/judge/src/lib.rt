@@ -1,19 +1,20 @@
 // The judge and match ends: refusals first, all before the first write, and then the rows of the rewritten table and what is read off them.
 #![tactic(auto)]
 
-ghost use Rattle.std.specs.Prelude.{◌≡◌, length, replicate};
-ghost use Rattle.rewrite.specs.Computed.{renumbered};
+ghost use Rattle.std.specs.Prelude.{◌≡◌, replicate, None};
+ghost use Rattle.nodes.specs.Sorts.{sort_number};
+ghost use Rattle.rewrite.specs.Computed.{rewriting_by, renumbered};
 ghost use Rattle.judge.specs.Judges.{Judges, EndsMatches};
-ghost use Rattle.judge.specs.Computed.{Lays};
+ghost use Rattle.judge.specs.Computed.{NoEnds, Lays};
 
-use cells::{TOP_WORD, word_at};
-use clocks::UNCLOCKED;
+use cells::{Span, TOP_WORD, word_at};
+use encoding::TABLE_BYTES;
 use judgement::{Judgement, refused};
-use nodes::operators::{PROPERTY, SEQUENCE};
+use nodes::SLOTS;
+use nodes::operators::Sort;
 use positions::PositionSet;
 use readout::level_of;
-use refusal::{Verdict, wide};
-use rewrite::Rewriting;
+use refusal::{Reason, Verdict};
 use rows::fill;
 use settling::settle;
 use tested::tested;
@@ -27,22 +28,35 @@ pub struct MatchEnds {
     pub top: bool,
 }
 
+impl MatchEnds {
+    // A refusal answers no end.
+    pub fn refused(verdict: Verdict) -> MatchEnds
+        ensures { NoEnds verdict result }
+    {
+        MatchEnds {
+            verdict,
+            mask: PositionSet::empty(),
+            top: false,
+        }
+    }
+}
+
 // Settles a call, where `wrong` is the sort that the root must not have; with no refusal, leaves the rows of the rewritten table in the workspace, that table
-// in the first bytes of `new`, and the clock and the new number of each node.
+// in the first bytes of `new`, and the clock and the new number of each node, and answers the count of new nodes.
 fn lay(
     table: &[u8],
-    wrong: u8,
+    wrong: Option<Sort>,
     samples: &[u64],
     start: usize,
     ws: &mut [u64],
-    new: &mut [u8],
-    clocks: &mut [u8],
-    numbers: &mut [u8],
-) -> Rewriting
-    requires { (length new.old ≡ 486) × (clocks.old ≡ replicate 121 255) × (length numbers.old ≡ 121) }
-    ensures { Lays table.now wrong samples.now start ws.old new.old (renumbered result clocks.new numbers.new) new.new ws.new }
+    new: &mut [u8; TABLE_BYTES],
+    clocks: &mut [Option<u8>; SLOTS],
+    numbers: &mut [u8; SLOTS],
+) -> Result<usize, Reason>
+    requires { clocks.old ≡ replicate 121 None }
+    ensures { Lays table.now (sort_number wrong) samples.now start ws.old new.old (renumbered (rewriting_by result) clocks.new numbers.new) new.new ws.new }
 {
-    let settled = settle(
+    let m = settle(
         table,
         wrong,
         samples.len(),
@@ -51,43 +65,38 @@ fn lay(
         new,
         clocks,
         numbers,
-    );
-    let verdict = settled.verdict;
-    if verdict.number != 0 {
-        return settled;
-    }
-    let m = settled.count;
+    )?;
     let used = 4 * m + 6;
     fill(&new[..used], samples, ws, m);
-    settled
+    Ok(m)
 }
 
 // The level at which the property at the table's root holds on the samples, and whether they test it; the rows are left in the workspace.
 pub fn judge(table: &[u8], samples: &[u64], workspace: &mut [u64]) -> Judgement
     ensures { Judges table.now samples.now workspace.old result workspace.new }
 {
-    let mut new = [0; 486];
-    let mut clocks = [UNCLOCKED; 121];
-    let mut numbers = [0; 121];
-    let settled = lay(
+    let mut new = [0; TABLE_BYTES];
+    let mut clocks = [None; SLOTS];
+    let mut numbers = [0; SLOTS];
+    let wrong = Some(Sort::Sequence);
+    let m = match lay(
         table,
-        SEQUENCE,
+        wrong,
         samples,
         0,
         workspace,
         &mut new,
         &mut clocks,
         &mut numbers,
-    );
-    let verdict = settled.verdict;
-    if verdict.number != 0 {
-        return refused(verdict);
-    }
-    let m = wide(table[5]);
-    let tests = tested(table, m, &clocks, &numbers, workspace, samples.len());
+    ) {
+        Ok(m) => m,
+        Err(reason) => return refused(Verdict::from(reason)),
+    };
+    let span = Span { n: samples.len() };
+    let tests = tested(table, &clocks, &numbers, workspace, span);
     Judgement {
-        verdict,
-        level: level_of(workspace, settled.count - 1),
+        verdict: Verdict::ACCEPTED,
+        level: level_of(workspace, m - 1),
         tested: tests,
     }
 }
@@ -96,30 +105,26 @@ pub fn judge(table: &[u8], samples: &[u64], workspace: &mut [u64]) -> Judgement
 pub fn match_ends(table: &[u8], samples: &[u64], start: usize, workspace: &mut [u64]) -> MatchEnds
     ensures { EndsMatches table.now samples.now workspace.old start result workspace.new }
 {
-    let mut new = [0; 486];
-    let mut clocks = [UNCLOCKED; 121];
-    let mut numbers = [0; 121];
-    let settled = lay(
+    let mut new = [0; TABLE_BYTES];
+    let mut clocks = [None; SLOTS];
+    let mut numbers = [0; SLOTS];
+    let wrong = Some(Sort::Property);
+    let m = match lay(
         table,
-        PROPERTY,
+        wrong,
         samples,
         start,
         workspace,
         &mut new,
         &mut clocks,
         &mut numbers,
-    );
-    let verdict = settled.verdict;
-    if verdict.number != 0 {
-        return MatchEnds {
-            verdict,
-            mask: PositionSet::empty(),
-            top: false,
-        };
-    }
-    let root = settled.count - 1;
+    ) {
+        Ok(m) => m,
+        Err(reason) => return MatchEnds::refused(Verdict::from(reason)),
+    };
+    let root = m - 1;
     MatchEnds {
-        verdict,
+        verdict: Verdict::ACCEPTED,
         mask: word_at(workspace, root, start),
         top: word_at(workspace, root, TOP_WORD).has(start),
     }

@@ -8,7 +8,7 @@ use refusal::Verdict;
 
 // The first refusal that applies, or none; the level; and whether the samples test the assertion.
 #[repr(C)]
-#[derive(Clone, Copy)]
+#[derive(Clone, Copy, PartialEq, Eq)]
 pub struct Judgement {
     pub verdict: Verdict,
     pub level: Level,

@@ -4,9 +4,9 @@ use native.Mathlib.Nat.{zero-add, le_of_suc-le-suc, lt_of_not-le}
 use mathlib.Core.Path.{◌≡◌, refl, ◌∙◌, ap, subst}
 use mathlib.Core.Logic.{◌⊎◌, inl, inr, ⊎_elim}
 use mathlib.Core.List.{List, [], ◌∷◌, ◌++◌}
-use Prim.Native.Nat.{ℕ, ◌-◌, ◌<◌, ◌≤◌}
-use lib.ListN.{length, take, drop, length-drop, length-replicate, replicate}
-use lib.Seq.{take_all, take_at, take-length, length-take-le}
+use Prim.Native.Nat.{ℕ, ◌<◌, ◌≤◌}
+use lib.ListN.{length, take, drop, length-replicate, replicate}
+use lib.Seq.{take_at, take-length, length-take-le}
 use Rattle.refusal.specs.declared.Verdict.{Verdict}
 use Rattle.refusal.specs.First.{Refusal, Answers, LowestSuch}
 use Rattle.refusal.specs.Heading.{count}
@@ -163,33 +163,34 @@ level_digit t xs d judged left judges =
     ⊎_elim (λ z. let (_, _, l) = (judges.accepted z).level in low_level l) (λ z. let e = (judges.refused z).0 in omega arith) (decide (is_eq judged.verdict.number 0))
 
 -- what is known when the judge has answered: the record was read into 63 words, and the workspace was cleared
-module _ (s : List ℕ) (end : ℕ) (parts : PartsAt s end) (reading : Reading) (words : List ℕ) (read : Reads (take (length s - end) (drop end s)) (replicate 63 0) reading words) (judged : Judgement) (left : List ℕ)
-    (size : length words ≡ 63) (judges : Judges (take end s) (take reading.count words) cleared judged left) where
-  -- the bytes from `end` on are all that follow
-  reads : Reads (drop end s) (replicate 63 0) reading words
-  reads = subst (λ (r : List ℕ). Reads r (replicate 63 0) reading words) (take_all (length s - end) (drop end s) (let e = length-drop end s in omega arith)) read
+module _ (s : List ℕ) (end : ℕ) (parts : PartsAt s end) (table rest : List ℕ) (front : table ≡ take end s) (back : rest ≡ drop end s) (reading : Reading) (words : List ℕ) (reads : Reads rest (replicate 63 0) reading words)
+    (judged : Judgement) (left : List ℕ) (size : length words ≡ 63) (judges : Judges table (take reading.count words) cleared judged left) where
+  table_is : table ≡ table_part s
+  table_is = front ∙ parts.0
+
+  record_is : rest ≡ record_part s
+  record_is = back ∙ parts.1
 
   of_record : Answers (Record.refusals (record_part s) longest) reading.verdict
   of_record =
-      subst (λ (r : List ℕ). Answers (Record.refusals r longest) reading.verdict) parts.1
-      (subst (λ (n : ℕ). Answers (Record.refusals (drop end s) n) reading.verdict) (length-replicate {A = ℕ} 63 0) reads.answer)
+      subst (λ (r : List ℕ). Answers (Record.refusals r longest) reading.verdict) record_is
+      (subst (λ (n : ℕ). Answers (Record.refusals rest n) reading.verdict) (length-replicate {A = ℕ} 63 0) reads.answer)
 
   of_table : Answers (judge_refusals (table_part s) (length (take reading.count words)) 7800) judged.verdict
   of_table =
-      subst (λ (t : List ℕ). Answers (judge_refusals t (length (take reading.count words)) 7800) judged.verdict) parts.0
-      (subst (λ (n : ℕ). Answers (judge_refusals (take end s) (length (take reading.count words)) n) judged.verdict) (length-replicate {A = ℕ} 7800 0) judges.answer)
+      subst (λ (t : List ℕ). Answers (judge_refusals t (length (take reading.count words)) 7800) judged.verdict) table_is
+      (subst (λ (n : ℕ). Answers (judge_refusals table (length (take reading.count words)) n) judged.verdict) (length-replicate {A = ℕ} 7800 0) judges.answer)
 
   few : length (take reading.count words) ≤ longest
-  few = let l = few_samples (drop end s) (replicate 63 0) reading words reads in let e = length-take-le reading.count words (omega arith) in omega arith
+  few = let l = few_samples rest (replicate 63 0) reading words reads in let e = length-take-le reading.count words (omega arith) in omega arith
 
   same_samples : reading.verdict.number ≡ 0 → take reading.count words ≡ samples_of s
   same_samples y =
-      let r : List ℕ = drop end s in
       let (c, w) = reads.accepted y in
       ap (λ (n : ℕ). take n words) c
-      ∙ ap (take (count r)) w
-      ∙ take_at (Record.samples r (count r)) _ (count r) (length-samples r (count r))
-      ∙ ap (λ (r : List ℕ). Record.samples r (count r)) parts.1
+      ∙ ap (take (count rest)) w
+      ∙ take_at (Record.samples rest (count rest)) _ (count rest) (length-samples rest (count rest))
+      ∙ ap (λ (r : List ℕ). Record.samples r (count r)) record_is
 
   -- the line is the table's refusal, or else the record's, or else the level's
   abbrev line : List ℕ
@@ -221,7 +222,7 @@ module _ (s : List ℕ) (end : ℕ) (parts : PartsAt s end) (reading : Reading) 
         accepted = λ _. record {
           judgement = judged;
           workspace = left;
-          judged = subst (λ (xs : List ℕ). Judges (table_part s) xs cleared judged left) (same_samples y) (subst (λ (t : List ℕ). Judges t (take reading.count words) cleared judged left) parts.0 judges);
+          judged = subst (λ (xs : List ℕ). Judges (table_part s) xs cleared judged left) (same_samples y) (subst (λ (t : List ℕ). Judges t (take reading.count words) cleared judged left) table_is judges);
           accepts = z;
           is = told_level _ _ _ _ z y;
         };

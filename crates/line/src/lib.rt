@@ -1,7 +1,7 @@
 // The program's answer: the line for any input, a table and then a record. How a line is written stands in `linetext`.
 #![tactic(auto)]
 
-ghost use Rattle.std.specs.Prelude.{◌≡◌, ◌<◌, ◌≤◌, length};
+ghost use Rattle.std.specs.Prelude.{◌≤◌, length};
 ghost use Rattle.line.specs.Program.{Says};
 ghost use Rattle.line.specs.Computed.{PartsAt};
 
@@ -15,13 +15,6 @@ pub const LONGEST_LINE: usize = 19;
 // (`proofs/Theorems.antt`, `cut_same`).
 pub const ENOUGH: usize = 997;
 
-// A byte as a count.
-fn counted(x: u8) -> usize
-    ensures { (result ≡ x) × (result < 256) }
-{
-    x as usize
-}
-
 // Where the table part ends and the record begins.
 fn table_end(input: &[u8]) -> usize
     ensures upper_bound { result ≤ length input.now }
@@ -30,11 +23,7 @@ fn table_end(input: &[u8]) -> usize
     if input.len() < 6 {
         return input.len();
     }
-    let end = 4 * counted(input[5]) + 6;
-    if input.len() < end {
-        return input.len();
-    }
-    end
+    input.len().min(4 * usize::from(input[5]) + 6)
 }
 
 // Puts the line for the input at the start of `line`, and answers how many bytes it has. A record that is refused gives no samples, so the judge's own refusals
@@ -43,12 +32,12 @@ pub fn answer(input: &[u8], line: &mut [u8; LONGEST_LINE]) -> usize
     ensures says { Says input.now line.old result line.new }
     ensures upper_bound { result ≤ length line.new }
 {
-    let end = table_end(input);
+    let (table, rest) = input.split_at(table_end(input));
     let mut samples = [0; 63];
-    let reading = record::read(&input[end..], &mut samples);
+    let reading = record::read(rest, &mut samples);
     let n = reading.count;
     let mut workspace = [0; 7800];
-    let judged = judge(&input[..end], &samples[..n], &mut workspace);
+    let judged = judge(table, &samples[..n], &mut workspace);
     put_line(
         line,
         judged.verdict,

@@ -1,38 +1,29 @@
 -- Laws of the bytes of a line, put piece by piece. Assumes nothing.
 use native.Mathlib.Omega.{arith}
-use native.Mathlib.Numerals.{add-one}
 use borrow.Author.Tests.{lt-ltb, le-ltb, eq-eqb, ne_eqb}
 use mathlib.Core.Path.{◌≡◌, refl, ◌∙◌, sym, ap, subst}
 use mathlib.Core.Logic.{⊎_elim}
-use mathlib.Core.Bool.{Bool, true, false}
+use mathlib.Core.Bool.{Bool, true, false, cond}
 use mathlib.Core.List.{List, [], ◌∷◌, ◌++◌, append_assoc}
 use Prim.Native.Nat.{ℕ, zero, suc, ◌+◌, ◌/◌, ◌%◌, ◌<◌, ◌≤◌}
 use lib.Dec.{ltb}
-use lib.ListN.{length, get_or, take, drop, set, length-append, length-set}
-use lib.Seq.{take-length, drop-drop, sets-eq, paste, paste-zero, paste-suc, take-paste, drop-paste}
+use lib.ListN.{length, take, drop, set, length-append, length-set}
+use lib.Seq.{sets-eq, take-length, drop-drop, paste, paste-zero, take-paste, drop-paste}
 use Rattle.telling.proofs.Telling.{decide, is_lt}
 use Rattle.refusal.specs.declared.Verdict.{Verdict}
 use Rattle.linetext.specs.Text.{codes, digit, decimal_in, decimal, yes_no, level_line, refused_line}
-use Rattle.linetext.specs.Computed.{digit_if, line_of, Puts}
+use Rattle.linetext.specs.Computed.{line_of, Puts}
 
 -- ---- pieces
 
 module _ (d : List ℕ) (at : ℕ) where
-  -- one byte more of a text
-  pub text_more : (e t : List ℕ) (i x : ℕ) → at + length t ≤ length d → i < length t → x ≡ get_or t i 0 → e ≡ paste d at t i
-      → set e (at + i) x ≡ paste d at t (i + 1)
-  text_more e t i x l h ex p = rw (p, ex, add-one i) (paste-suc d at t i 0 (omega arith) h)
+  -- a digit
+  pub puts_digit : (x : ℕ) → at < length d → Puts d at (digit x ∷ []) (at + 1) (set d at (digit x))
+  puts_digit x l = record { next = refl; bytes = sets-eq (digit x ∷ []) d at (omega arith); size = length-set d at (digit x) }
 
-  pub puts_text : (t : List ℕ) (i : ℕ) (d' : List ℕ) → i ≤ length t → length t ≤ i → length d' ≡ length d → d' ≡ paste d at t i → Puts d at t (at + i) d'
-  puts_text t i d' l h n p =
-      let same : i ≡ length t = omega arith in
-      record { next = omega arith; bytes = p ∙ ap (paste d at t) same; size = n }
-
-  pub puts_digit : (x : ℕ) (wanted : Bool) (d' : List ℕ) (r : ℕ) → at < length d → wanted ≡ true → d' ≡ set d at (digit x) → r ≡ at + 1 → Puts d at (digit_if wanted x) r d'
-  puts_digit x wanted d' r l w e n = rw w (record { next = n; bytes = e ∙ sets-eq (digit x ∷ []) d at (omega arith); size = ap length e ∙ length-set d at (digit x) })
-
-  pub puts_none : (x : ℕ) (wanted : Bool) → wanted ≡ false → Puts d at (digit_if wanted x) at d
-  puts_none x wanted w = rw w (record { next = omega arith; bytes = paste-zero d at []; size = refl })
+  -- nothing
+  puts_none : Puts d at [] at d
+  puts_none = record { next = omega arith; bytes = paste-zero d at []; size = refl }
 
   pastes : (t u : List ℕ) → at + length t ≤ length d → paste (paste d at t (length t)) (at + length t) u (length u) ≡ paste d at (t ++ u) (length (t ++ u))
   pastes t u l =
@@ -87,6 +78,10 @@ decimal_three (suc (suc k)) h l =
     ∙ ap (λ (t : List ℕ). t ++ (digit (n % 10) ∷ [])) (two_digits k (n / 10) (omega arith) (omega arith))
     ∙ ap (λ (d : ℕ). digit d ∷ digit (n / 10 % 10) ∷ digit (n % 10) ∷ []) e
 
+-- a digit, or none
+abbrev pub digit_if : Bool → ℕ → List ℕ
+digit_if wanted d = cond wanted (digit d ∷ []) []
+
 -- its digits: hundreds and tens where there are any
 abbrev digits : ℕ → List ℕ
 digits n = digit_if (ltb 99 n) (n / 100) ++ digit_if (ltb 9 n) (n / 10 % 10) ++ (digit (n % 10) ∷ [])
@@ -105,20 +100,38 @@ decimal_is n l = ⊎_elim one (λ g. ⊎_elim (two g) three (decide (is_lt n 100
     three : ¬ (n < 100) → decimal n ≡ digits n
     three g = decimal_three n (omega arith) l ∙ rw (lt-ltb 99 n (omega arith), lt-ltb 9 n (omega arith))
 
-puts_decimal : (d : List ℕ) (at n : ℕ) → at + 3 ≤ length d → n < 1000 → (r q p : ℕ) (e f g : List ℕ) → Puts d at (digit_if (ltb 99 n) (n / 100)) r e → r ≤ at + 1
-    → Puts e r (digit_if (ltb 9 n) (n / 10 % 10)) q f → q ≤ r + 1 → Puts f q (digit (n % 10) ∷ []) p g → Puts d at (decimal n) p g
-puts_decimal d at n l h r q p e f g a i b j c =
-    let two = puts_then d at _ _ r q e f (let n = a.next in omega arith) a b in
-    subst (λ (t : List ℕ). Puts d at t p g) (sym (decimal_is n h)) (puts_then d at _ _ q p f g (let n = two.next in omega arith) two c)
+-- a digit where it is wanted: what is left is e, and r the place after it
+module _ (d : List ℕ) (at x : ℕ) {wanted : Bool} {r : ℕ} {e : List ℕ} where
+  pub puts_wanted : {q : ℕ} {f : List ℕ} → r ≡ q → e ≡ f → wanted ≡ true → Puts d at (digit x ∷ []) q f → Puts d at (digit_if wanted x) r e
+  puts_wanted next bytes w p = rw (w, next, bytes) p
+
+  pub puts_unwanted : r ≡ at → e ≡ d → wanted ≡ false → Puts d at (digit_if wanted x) r e
+  puts_unwanted next bytes w = rw (w, next, bytes) (puts_none d at)
+
+digit_short : (wanted : Bool) (x : ℕ) → length (digit_if wanted x) ≤ 1
+digit_short true x = omega arith
+digit_short false x = omega arith
+
+puts_decimal : (d : List ℕ) (at n : ℕ) → at + 3 ≤ length d → n < 1000 → (r q p : ℕ) (e f g : List ℕ) → Puts d at (digit_if (ltb 99 n) (n / 100)) r e
+    → Puts e r (digit_if (ltb 9 n) (n / 10 % 10)) q f → Puts f q (digit (n % 10) ∷ []) p g → Puts d at (decimal n) p g × (p ≤ at + 3)
+puts_decimal d at n l h r q p e f g a b c =
+    let i = a.next in
+    let j = b.next in
+    let k = c.next in
+    let m = digit_short (ltb 99 n) (n / 100) in
+    let o = digit_short (ltb 9 n) (n / 10 % 10) in
+    let two = puts_then d at _ _ r q e f (omega arith) a b in
+    (subst (λ (t : List ℕ). Puts d at t p g) (sym (decimal_is n h)) (puts_then d at _ _ q p f g (let n = two.next in omega arith) two c), omega arith)
 
 -- a text and a number
 pub puts_number : (d : List ℕ) (at : ℕ) (t : List ℕ) (n : ℕ) → at + length t + 3 ≤ length d → n < 1000 → (q r₁ r₂ r₃ : ℕ) (c e₁ e₂ e₃ : List ℕ) → Puts d at t q c
-    → Puts c q (digit_if (ltb 99 n) (n / 100)) r₁ e₁ → r₁ ≤ q + 1 → Puts e₁ r₁ (digit_if (ltb 9 n) (n / 10 % 10)) r₂ e₂ → r₂ ≤ r₁ + 1 → Puts e₂ r₂ (digit (n % 10) ∷ []) r₃ e₃
-    → Puts d at (t ++ decimal n) r₃ e₃
-puts_number d at t n l h q r₁ r₂ r₃ c e₁ e₂ e₃ text one i two j three =
+    → Puts c q (digit_if (ltb 99 n) (n / 100)) r₁ e₁ → Puts e₁ r₁ (digit_if (ltb 9 n) (n / 10 % 10)) r₂ e₂ → Puts e₂ r₂ (digit (n % 10) ∷ []) r₃ e₃
+    → Puts d at (t ++ decimal n) r₃ e₃ × (r₃ ≤ at + length t + 3)
+puts_number d at t n l h q r₁ r₂ r₃ c e₁ e₂ e₃ text one two three =
     let k = text.next in
     let m = text.size in
-    puts_then d at t (decimal n) q r₃ c e₃ (omega arith) text (puts_decimal c q n (omega arith) h r₁ r₂ r₃ e₁ e₂ e₃ one i two j three)
+    let number = puts_decimal c q n (omega arith) h r₁ r₂ r₃ e₁ e₂ e₃ one two three in
+    (puts_then d at t (decimal n) q r₃ c e₃ (omega arith) text number.0, omega arith)
 
 -- ---- the two lines
 
@@ -163,14 +176,3 @@ module _ (table read : Verdict) (level : ℕ) (tested : Bool) where
     pub told_level : read.number ≡ 0 → line_of table read level tested ≡ level_line level tested
     unfolding line_of
     told_level y = rw (eq-eqb table.number 0 z, eq-eqb read.number 0 y)
-
-pub puts_as : (d t u : List ℕ) (r : ℕ) (d' : List ℕ) → u ≡ t → Puts d 0 t r d' → Puts d 0 u r d'
-puts_as d t u r d' e p = subst (λ (t : List ℕ). Puts d 0 t r d') (sym e) p
-
--- what is put from the start on is the first of the bytes that are left
-pub puts_within : (d t : List ℕ) (r : ℕ) (d' : List ℕ) → Puts d 0 t r d' → r ≤ length d'
-puts_within d t r d' p =
-    let n = p.next in
-    let b : length d' ≡ length (t ++ drop (0 + length t) d) = ap length (p.bytes ∙ ap (λ (u : List ℕ). u ++ drop (0 + length t) d) (take-length t)) in
-    let a = length-append t (drop (0 + length t) d) in
-    omega arith

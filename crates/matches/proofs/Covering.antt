@@ -1,16 +1,15 @@
 -- The ends that are reached from a set's places, while the places are taken out one after the other. Along words that chain the walk may stop once all
 -- places that are left are reached. Assumes nothing.
-use mathlib.Core.Path.{◌≡◌, refl, sym, ap, ◌∙◌, subst}
-use mathlib.Core.Bool.{Bool, true, false, not, ◌||◌, ◌&&◌, and-false}
+use mathlib.Core.Path.{◌≡◌, sym, ap, ◌∙◌, subst}
+use mathlib.Core.Bool.{Bool, true, false, not, ◌||◌, ◌&&◌}
 use mathlib.Core.Logic.{◌⊎◌, inl, inr, ⊎_elim}
 use Prim.Native.Nat.{ℕ, ◌+◌, ◌≤◌, ◌<◌}
 use native.Mathlib.Nat.{eq-or-lt_of_le, le_of_suc-le-suc}
 use native.Mathlib.Numerals.{add-one}
 use native.Mathlib.Omega.{arith}
 use lib.Dec.{T, eqb, leb}
-use borrow.Author.Tests.{lt-leb}
 use Rattle.telling.specs.Tells.{Tells, some}
-use Rattle.telling.proofs.Telling.{passes, passed, fails, is_test, is_and, is_or, is_not, is_eq, is_le, is_map, is_false, is_as, is_some, decide, side, same_test}
+use Rattle.telling.proofs.Telling.{passes, passed, fails, is_test, is_and, is_or, is_not, is_eq, is_le, is_map, is_as, is_some, decide, side, same_test}
 use Rattle.positions.specs.Member.{has, Is, Lowest}
 use Rattle.positions.proofs.Laws.{has_none}
 use Rattle.positions.proofs.Lowest.{lowest_in}
@@ -24,18 +23,10 @@ tells_within : (x y : ℕ) → Tells (not (some (λ k. has x k && not (has y k))
 tells_within x y =
     is_not (is_map (is_some 0 64 (λ k u v. is_and (is_test (has x k)) (is_not (is_test (has y k))))) (λ q. (q.0, q.1, q.2, q.3.0, q.3.1)) (λ q. (q.0, q.1, q.2, (q.3, q.4))))
 
-fell : (r : Bool) → not r ≡ true → r ≡ false
-fell true e = sym e
-fell false e = refl
-
-rose : (r : Bool) → not r ≡ false → r ≡ true
-rose true e = refl
-rose false e = sym e
-
 -- a set that does not is not empty
-pub some_left : (x y : ℕ) (r : Bool) → r ≡ not (some (λ k. has x k && not (has y k)) 0 64) → not r ≡ true → x ≡ 0 → ⊥
+pub some_left : (x y : ℕ) (r : Bool) → r ≡ not (some (λ k. has x k && not (has y k)) 0 64) → r ≡ false → x ≡ 0 → ⊥
 some_left x y r e f z =
-    subst T (sym e ∙ fell r f) ((tells_within x y).from (λ q. subst T (ap (λ v. has v q.0) z ∙ has_none q.0) q.3))
+    subst T (sym e ∙ f) ((tells_within x y).from (λ q. subst T (ap (λ v. has v q.0) z ∙ has_none q.0) q.3))
 
 -- a set of places up to n that does
 within_all : (x y n : ℕ) (r : Bool) → n ≤ 63 → ((k : ℕ) → n < k → has x k ≡ false) → r ≡ not (some (λ k. has x k && not (has y k)) 0 64) → r ≡ true
@@ -51,15 +42,6 @@ pub record Going (s : ℕ → Bool) (W : ℕ → ℕ → Bool) (n out left : ℕ
   pub sub : (k : ℕ) → T (has left k) → T (s k)
   pub from : (j : ℕ) → T (has out j) → (p : ℕ) × (p ≤ n) × T (s p) × T (W p j) × ((k : ℕ) → T (has left k) → p < k)
   pub all : (p j : ℕ) → p ≤ n → T (s p) → T (W p j) → T (has left p) ⊎ T (has out j)
-
-pub going_start : (W : ℕ → ℕ → Bool) (n s out left : ℕ) → Is out (λ k. false) → Is left (λ k. has s k && leb k n) → Going (has left) W n out left
-going_start W n s out left none_out cut =
-    record {
-      inside = λ k h. cut k ∙ ap (λ b. has s k && b) (lt-leb k n h) ∙ and-false (has s k);
-      sub = λ k t. t;
-      from = λ j t. absurd (subst T (none_out j) t);
-      all = λ p j l sp w. inl sp;
-    }
 
 -- one turn: the lowest place l of what is left is taken out, and its ends are joined
 module _ (s : ℕ → Bool) (W : ℕ → ℕ → Bool) (n out left l : ℕ) (short : n ≤ 63) (not_None : left ≡ 0 → ⊥) (low : Lowest 64 left l) (g : Going s W n out left) where
@@ -97,18 +79,14 @@ module _ (W : ℕ → ℕ → Bool) (n s cut out left : ℕ) (cuts : Is cut (λ 
       (is_map (is_test (has out j)) (λ t. let q = g.from j t in (q.0, q.1, ((taken q.0).to q.2).0, q.3)) (λ q. ⊎_elim (λ t. along q.0 j q.1 q.2 q.3 t) (λ o. o) (g.all q.0 j q.1 ((taken q.0).from (q.2, q.1)) q.3)))
       (is_reached W n j (λ m. is_test (has s m)) (λ m. is_test (W m j)))
 
-  -- nothing is left
-  pub going_through : left ≡ 0 → Is out (reached (has s) W n)
-  going_through e = going_stop (λ p j l sp w t. absurd (subst T (ap (λ x. has x p) e ∙ has_none p) t))
-
   -- all that are left are covered: reached already, by words that chain
   pub going_end : (covered : ℕ) (chain r : Bool) → n ≤ 63 → (chain ≡ true → Chains (has s) W n) → Is covered (λ k. has out k && chain)
-      → r ≡ not (some (λ k. has left k && not (has covered k)) 0 64) → not r ≡ false → Is out (reached (has s) W n)
+      → r ≡ not (some (λ k. has left k && not (has covered k)) 0 64) → r ≡ true → Is out (reached (has s) W n)
   going_end covered chain r short chains cover e f = going_stop along
     where
       along : (p j : ℕ) → p ≤ n → T (has s p) → T (W p j) → T (has left p) → T (has out j)
       along p j l sp w t =
-          let c = (is_as (cover p) (is_and (is_test (has out p)) (is_test chain))).to (within_all left covered n r short g.inside e (rose r f) p t) in
+          let c = (is_as (cover p) (is_and (is_test (has out p)) (is_test chain))).to (within_all left covered n r short g.inside e f p t) in
           let q = g.from p c.0 in
           ⊎_elim
           (λ u. let z = q.4 q.0 u in absurd (omega arith))
@@ -121,11 +99,8 @@ module _ (W : ℕ → ℕ → Bool) (n s cut out left : ℕ) (cuts : Is cut (λ 
 abbrev pub Behind : (ℕ → ℕ → Bool) → ℕ → ℕ → Type 0
 Behind f i back = (j : ℕ) → Tells (has back j) ((m : ℕ) × (m < i) × (j < m) × T (f m j))
 
-pub behind_none : (f : ℕ → ℕ → Bool) (back : ℕ) → Is back (λ k. false) → Behind f 0 back
-behind_none f back h j = is_as (h j) (is_false (λ q. omega arith))
-
 -- word i is looked at: w, of which x has the places below i
-pub behind_more : (f : ℕ → ℕ → Bool) (i back w above x back' : ℕ) → Behind f i back → Is w (f i) → Is above (λ k. has w k && leb i k)
+behind_more : (f : ℕ → ℕ → Bool) (i back w above x back' : ℕ) → Behind f i back → Is w (f i) → Is above (λ k. has w k && leb i k)
     → Is x (λ k. has w k && not (has above k)) → Is back' (λ k. has back k || has x k) → Behind f (i + 1) back'
 behind_more f i back w above x back' inv ew el ex eb j =
     is_map
@@ -139,10 +114,15 @@ behind_more f i back w above x back' inv ew el ex eb j =
     below : T (f i j) → ¬ (T (f i j) × (i ≤ j)) → j < i
     below t d = ⊎_elim (λ h. h) (λ h. absurd (d (t, h))) (side j i)
 
+-- the last turn of `0..=n`
+pub behind_last : (f : ℕ → ℕ → Bool) (i n back w above x back' : ℕ) → i ≡ n → Behind f i back → Is w (f i) → Is above (λ k. has w k && leb i k)
+    → Is x (λ k. has w k && not (has above k)) → Is back' (λ k. has back k || has x k) → Behind f (n + 1) back'
+behind_last f i n back w above x back' q inv ew el ex eb = subst (λ m. Behind f (m + 1) back') q (behind_more f i back w above x back' inv ew el ex eb)
+
 -- all words up to n are looked at
-pub behind_all : (f : ℕ → ℕ → Bool) (n i back : ℕ) (r : Bool) → n ≤ 63 → i ≡ n + 1 → Behind f i back → r ≡ not (some (has back) 0 64)
+pub behind_all : (f : ℕ → ℕ → Bool) (n back : ℕ) (r : Bool) → n ≤ 63 → Behind f (n + 1) back → r ≡ not (some (has back) 0 64)
     → Tells r ((m j : ℕ) → m ≤ n → j < m → f m j ≡ false)
-behind_all f n i back r short ei inv e =
+behind_all f n back r short inv e =
     is_map
     (is_as e (is_not (is_some 0 64 (λ k u v. inv k))))
     (λ q m j u v. fails (is_test (f m j)) (λ t. q (j, omega arith, omega arith, (m, omega arith, v, t))))

@@ -1,14 +1,10 @@
 -- The ends that are reached from a set's places. Assumes nothing.
-use mathlib.Core.Path.{◌≡◌, refl, sym, ap, ap₂, ◌∙◌, subst}
+use mathlib.Core.Path.{◌≡◌, refl, ap, ap₂, ◌∙◌}
 use mathlib.Core.Bool.{Bool, true, false, ◌&&◌}
 use mathlib.Core.List.{List}
-use mathlib.Core.Logic.{⊎_elim}
-use Prim.Native.Nat.{ℕ, suc, ◌+◌, ◌≤◌, ◌<◌}
-use native.Mathlib.Nat.{eq-or-lt_of_le, le_of_suc-le-suc}
-use native.Mathlib.Numerals.{add-one}
+use Prim.Native.Nat.{ℕ, suc, ◌≤◌}
 use native.Mathlib.Omega.{arith}
-use lib.ListN.{length, get_or, set}
-use lib.Seq.{get_or-set_same, get_or-set_other}
+use lib.ListN.{get_or}
 use Rattle.telling.specs.Tells.{Tells, some}
 use Rattle.telling.proofs.Telling.{is_and, is_map, is_some, some_same}
 use Rattle.positions.specs.Member.{has, Is}
@@ -41,14 +37,6 @@ reached_where s M N n j f = some_same 0 (suc n) (λ m u v. guarded (s m) (f m (o
 pub reached_by : (s : ℕ → Bool) (words : List ℕ) (M : ℕ → ℕ → Bool) (n r : ℕ) → Is r (reached s (λ m j. has (get_or words m 0) j) n)
     → ((m : ℕ) → m ≤ n → Is (get_or words m 0) (M m)) → Is r (reached s M n)
 reached_by s words M n r h e j = h j ∙ reached_where s (λ m j. has (get_or words m 0) j) M n j (λ m u t. e m u j)
-
--- words stored one after the other from word 0 on, until all up to n are
-pub words_more : (P : ℕ → ℕ → Type 0) (d : List ℕ) (m v : ℕ) → m < length d → P m v → ((j : ℕ) → j < m → P j (get_or d j 0)) → (j : ℕ) → j < m + 1 → P j (get_or (set d m v) j 0)
-words_more P d m v l p h j u =
-    ⊎_elim
-    (λ e. subst (λ x. P x (get_or (set d m v) x 0)) (sym e) (rw (get_or-set_same d m v 0 l) p))
-    (λ (g : j < m). rw (get_or-set_other d m j v 0 (λ z. omega arith)) (h j g))
-    (eq-or-lt_of_le (le_of_suc-le-suc (rw add-one at u)))
 
 -- whether two sets have a place in common, the one told by its places, the other by its word
 pub meets_as : (t : Bool) (x y z : ℕ) (f : ℕ → Bool) → t ≡ some (λ k. has x k && has y k) 0 64 → Is x f → y ≡ z → t ≡ some (λ k. f k && has z k) 0 64

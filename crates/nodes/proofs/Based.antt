@@ -6,7 +6,7 @@ use Prim.Native.Nat.{ℕ, ◌≤◌}
 use lib.Dec.{T, leb}
 use Rattle.telling.proofs.Telling.{is_le}
 use Rattle.refusal.specs.Heading.{version}
-use Rattle.nodes.specs.declared.operators.Row.{Row}
+use Rattle.nodes.specs.Operators.{Row}
 use Rattle.nodes.specs.declared.Node.{Node}
 use Rattle.nodes.specs.declared.Node.TheVariants.{Boolean, Sequence, Property}
 use Rattle.nodes.specs.declared.BooleanOp.TheVariants.{Constant}

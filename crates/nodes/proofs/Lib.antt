@@ -8,3 +8,4 @@ pub mod Fits
 pub mod Clocking
 pub mod Versions
 pub mod Based
+pub mod Sorting

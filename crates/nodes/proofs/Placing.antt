@@ -9,7 +9,7 @@ use mathlib.Core.List.{List}
 use Prim.Native.Nat.{ℕ, zero, suc, ◌+◌, ◌<◌, ◌≤◌}
 use lib.Dec.{T, eqb, leb}
 use Rattle.telling.proofs.Telling.{is_and, is_or, is_le, side}
-use Rattle.nodes.specs.declared.operators.Row.{Row}
+use Rattle.nodes.specs.Operators.{Row}
 use Rattle.nodes.specs.Operators.{none, sequence, property, operators, row_of}
 use Rattle.nodes.specs.Nodes.{raw_at, row_at, sort_at, hits_of, places_of, uses_of, WellFormed}
 use Rattle.nodes.specs.NodeClock.{Part, at_x, at_y}

@@ -2,5 +2,7 @@
 pub mod Operators
 pub mod Nodes
 pub mod NodeClock
+-- What the code has as enums.
+pub mod Sorts
 -- What the code is held to on the way there.
 pub mod Computed

@@ -1,10 +1,9 @@
 -- The nodes of a table's bytes: what stands at a node, when it is well formed, and in how many operand places a node stands. Assumes nothing.
 use Rattle.std.specs.Prelude.{◌≡◌, ◌⊎◌, cond, List, ℕ, zero, suc, ◌+◌, ◌*◌, ◌-◌, ◌<◌, ◌≤◌, eqb, get_or}
 use Rattle.refusal.specs.Heading.{version, count}
-use Rattle.nodes.specs.declared.operators.Row.{Row}
 use Rattle.nodes.specs.declared.Raw.{Raw}
 use Rattle.nodes.specs.declared.Node.{Node}
-use Rattle.nodes.specs.Operators.{none, sequence, property, row_of, node_of, Fourth}
+use Rattle.nodes.specs.Operators.{Row, none, sequence, property, row_of, node_of, Fourth}
 
 -- 4 bytes a node: operator, x, y and the fourth
 abbrev pub raw_at : List ℕ → ℕ → Raw

@@ -2,7 +2,6 @@
 -- sort of its node and of each operand, what its fourth byte may be, the length of its block under a clock, and the node that it makes of its bytes.
 -- Assumes nothing.
 use Rattle.std.specs.Prelude.{◌≡◌, ℕ, ◌+◌, ◌*◌, ◌/◌, ◌%◌, ◌≤◌, cond, List, [], ◌∷◌, eqb}
-use Rattle.nodes.specs.declared.operators.Row.{Row}
 use Rattle.nodes.specs.declared.Raw.{Raw}
 use Rattle.nodes.specs.declared.Node.{Node}
 use Rattle.nodes.specs.declared.Node.TheVariants.{Boolean, Sequence, Property}
@@ -46,6 +45,18 @@ newest = 3
 
 abbrev pub base : ℕ
 base = 2
+
+-- what an operator fixes: the first and the last version in which it is known; the node's own sort; the sort of x, or, where that is none, the number that x is
+-- below; the sort of y, none for none; what the fourth byte may be; and the length of its block in rewriting under a clock
+pub record Row : Type 0 where
+  pub first : ℕ
+  pub last : ℕ
+  pub own : ℕ
+  pub x : ℕ
+  pub limit : ℕ
+  pub y : ℕ
+  pub fourth : ℕ
+  pub block : ℕ
 
 -- a line of the document's table: the operator's code, what it fixes, and the node that it makes of x, y and the fourth byte
 pub record Entry : Type 0 where

@@ -5,11 +5,13 @@
 pub mod operators;
 
 ghost use Rattle.std.specs.Prelude.{◌≡◌, ◌+◌, ◌*◌, ◌≤◌, length};
+ghost use Rattle.refusal.specs.Heading.{count};
 ghost use Rattle.nodes.specs.Operators.{Decodes};
 ghost use Rattle.nodes.specs.Nodes.{raw_at, sort_at};
+ghost use Rattle.nodes.specs.Sorts.{sort_number};
 ghost use Rattle.nodes.specs.Computed.{named_by};
 
-use operators::row_of;
+use operators::{Sort, row_of};
 
 // Operator, x, y and the fourth byte.
 #[derive(Clone, Copy)]
@@ -20,13 +22,24 @@ pub struct Raw {
     pub fourth: u8,
 }
 
-// The node that the byte v names, or 120, which no node is.
+// The nodes that a table may have, and one place past them for what names none.
+pub const SLOTS: usize = 121;
+
+// The node that the byte v names, or 120, the place past all nodes, so that a loop over the operands of nodes has no branch for a byte that names none.
+#[tactic(auto, unfolding(crate::specs::Computed::named_by))]
 pub fn named(v: u8) -> usize
     ensures value { result ≡ named_by v }
     ensures upper_bound { result ≤ 120 }
 {
-    let i = v as usize;
-    if i < 120 { i } else { 120 }
+    usize::from(v).min(120)
+}
+
+// The count of a table's nodes.
+pub fn count_of(b: &[u8]) -> usize
+    requires { 6 ≤ length b.now }
+    ensures { result ≡ count b.now }
+{
+    usize::from(b[5])
 }
 
 // The four bytes of node k.
@@ -43,14 +56,13 @@ pub fn node_at(b: &[u8], k: usize) -> Raw
     }
 }
 
-// The sort of a node, 0 where its operator is not known.
-pub fn sort_at(b: &[u8], k: usize) -> u8
+// The sort of a node, none where its operator is not known.
+#[tactic(auto, unfolding(crate::specs::Nodes::sort_at))]
+pub fn sort_at(b: &[u8], k: usize) -> Option<Sort>
     requires { 4 * k + 10 ≤ length b.now }
-    ensures { result ≡ sort_at b.now k }
+    ensures { sort_number result ≡ sort_at b.now k }
 {
-    let n = node_at(b, k);
-    let r = row_of(n.op);
-    r.own
+    row_of(node_at(b, k).op).own
 }
 
 // The kinds of a boolean, operators 0 to 6. A constant has its value, and a signal, one risen and one fallen its number; every other number is an
@@ -123,51 +135,52 @@ pub enum Node {
     Property(PropertyOp),
 }
 
-// The node that four bytes stand for. An unknown operator, which no accepted table has, is taken for the constant 0.
-pub fn decode(n: Raw) -> Node
-    ensures { Decodes n result }
-{
-    let op = n.op;
-    let x = n.x as usize;
-    let y = n.y as usize;
-    let count = n.fourth as usize;
-    let low = count % 16;
-    let high = count / 16;
-    match op {
-        0 => Node::Boolean(BooleanOp::Constant(x)),
-        1 => Node::Boolean(BooleanOp::Signal(x)),
-        2 => Node::Boolean(BooleanOp::Not(x)),
-        3 => Node::Boolean(BooleanOp::And(x, y)),
-        4 => Node::Boolean(BooleanOp::Or(x, y)),
-        5 => Node::Boolean(BooleanOp::Risen(x)),
-        6 => Node::Boolean(BooleanOp::Fallen(x)),
-        16 => Node::Sequence(SequenceOp::Letter(x)),
-        17 => Node::Sequence(SequenceOp::Then(x, y)),
-        18 => Node::Sequence(SequenceOp::Fused(x, y)),
-        19 => Node::Sequence(SequenceOp::Either(x, y)),
-        20 => Node::Sequence(SequenceOp::Empty(x)),
-        21 => Node::Sequence(SequenceOp::Repeat(x)),
-        22 => Node::Sequence(SequenceOp::Clocked(x, y)),
-        23 => Node::Sequence(SequenceOp::Derived(DerivedSequence::Repeated(x, low, high))),
-        24 => Node::Sequence(SequenceOp::Derived(DerivedSequence::Delayed(x, y, low, high))),
-        25 => Node::Sequence(SequenceOp::Derived(DerivedSequence::Goto(x, count))),
-        26 => Node::Sequence(SequenceOp::Derived(DerivedSequence::Nonconsecutive(x, count))),
-        32 => Node::Property(PropertyOp::Strong(x)),
-        33 => Node::Property(PropertyOp::Weak(x)),
-        34 => Node::Property(PropertyOp::Negated(x)),
-        35 => Node::Property(PropertyOp::AnyOf(x, y)),
-        36 => Node::Property(PropertyOp::BothOf(x, y)),
-        37 => Node::Property(PropertyOp::Implies(x, y)),
-        38 => Node::Property(PropertyOp::Next(x)),
-        39 => Node::Property(PropertyOp::Until(x, y)),
-        40 => Node::Property(PropertyOp::Ticked(x, y)),
-        41 => Node::Property(PropertyOp::Defined(DerivedProperty::ImpliesNext(x, y))),
-        42 => Node::Property(PropertyOp::Defined(DerivedProperty::Followed(x, y))),
-        43 => Node::Property(PropertyOp::Defined(DerivedProperty::FollowedNext(x, y))),
-        44 => Node::Property(PropertyOp::Defined(DerivedProperty::Always(x))),
-        45 => Node::Property(PropertyOp::Defined(DerivedProperty::Eventually(x))),
-        46 => Node::Property(PropertyOp::Defined(DerivedProperty::StrongUntil(x, y))),
-        47 => Node::Property(PropertyOp::Defined(DerivedProperty::StrongNext(x))),
-        _ => Node::Boolean(BooleanOp::Constant(0)),
+impl From<Raw> for Node {
+    ghost from_gives = { Decodes };
+
+    // The node that four bytes stand for. An unknown operator, which no accepted table has, is taken for the constant 0.
+    fn from(n: Raw) -> Node {
+        let x = usize::from(n.x);
+        let y = usize::from(n.y);
+        let count = usize::from(n.fourth);
+        let low = count % 16;
+        let high = count / 16;
+        match n.op {
+            0 => Node::Boolean(BooleanOp::Constant(x)),
+            1 => Node::Boolean(BooleanOp::Signal(x)),
+            2 => Node::Boolean(BooleanOp::Not(x)),
+            3 => Node::Boolean(BooleanOp::And(x, y)),
+            4 => Node::Boolean(BooleanOp::Or(x, y)),
+            5 => Node::Boolean(BooleanOp::Risen(x)),
+            6 => Node::Boolean(BooleanOp::Fallen(x)),
+            16 => Node::Sequence(SequenceOp::Letter(x)),
+            17 => Node::Sequence(SequenceOp::Then(x, y)),
+            18 => Node::Sequence(SequenceOp::Fused(x, y)),
+            19 => Node::Sequence(SequenceOp::Either(x, y)),
+            20 => Node::Sequence(SequenceOp::Empty(x)),
+            21 => Node::Sequence(SequenceOp::Repeat(x)),
+            22 => Node::Sequence(SequenceOp::Clocked(x, y)),
+            23 => Node::Sequence(SequenceOp::Derived(DerivedSequence::Repeated(x, low, high))),
+            24 => Node::Sequence(SequenceOp::Derived(DerivedSequence::Delayed(x, y, low, high))),
+            25 => Node::Sequence(SequenceOp::Derived(DerivedSequence::Goto(x, count))),
+            26 => Node::Sequence(SequenceOp::Derived(DerivedSequence::Nonconsecutive(x, count))),
+            32 => Node::Property(PropertyOp::Strong(x)),
+            33 => Node::Property(PropertyOp::Weak(x)),
+            34 => Node::Property(PropertyOp::Negated(x)),
+            35 => Node::Property(PropertyOp::AnyOf(x, y)),
+            36 => Node::Property(PropertyOp::BothOf(x, y)),
+            37 => Node::Property(PropertyOp::Implies(x, y)),
+            38 => Node::Property(PropertyOp::Next(x)),
+            39 => Node::Property(PropertyOp::Until(x, y)),
+            40 => Node::Property(PropertyOp::Ticked(x, y)),
+            41 => Node::Property(PropertyOp::Defined(DerivedProperty::ImpliesNext(x, y))),
+            42 => Node::Property(PropertyOp::Defined(DerivedProperty::Followed(x, y))),
+            43 => Node::Property(PropertyOp::Defined(DerivedProperty::FollowedNext(x, y))),
+            44 => Node::Property(PropertyOp::Defined(DerivedProperty::Always(x))),
+            45 => Node::Property(PropertyOp::Defined(DerivedProperty::Eventually(x))),
+            46 => Node::Property(PropertyOp::Defined(DerivedProperty::StrongUntil(x, y))),
+            47 => Node::Property(PropertyOp::Defined(DerivedProperty::StrongNext(x))),
+            _ => Node::Boolean(BooleanOp::Constant(0)),
+        }
     }
 }

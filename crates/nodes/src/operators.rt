@@ -1,229 +1,156 @@
-// The table of operators as constant rows: each operator fixes the versions in which it is known, the sort of its node and of each operand, what its
-// fourth byte may be, and the length of its block.
+// The table of operators as constant rows: each operator fixes the versions in which it is known, the sort of its node, what each operand and its fourth
+// byte may be, and the length of its block.
 ghost use Rattle.std.specs.Prelude.{◌≡◌};
-ghost use Rattle.nodes.specs.Operators.{row_of};
+ghost use Rattle.nodes.specs.Operators.{none, row_of};
+ghost use Rattle.nodes.specs.Sorts.{row_numbers, operand_sort, operand_limit};
 
-// What an operator fixes: the first and the last version in which it is known; the node's own sort; the sort of x, or, where that is 0, the number that x
-// is below; the sort of y, 0 for none; what the fourth byte may be; and the length of its block in rewriting under a clock.
+// The sorts of nodes.
+#[derive(Clone, Copy, PartialEq, Eq)]
+pub enum Sort {
+    Boolean,
+    Sequence,
+    Property,
+}
+
+// What an operand byte may be: a number below a limit, which is 1 for a byte that is not used, or the index of a lower node of the sort.
+#[derive(Clone, Copy)]
+pub enum Operand {
+    Below(u8),
+    Node(Sort),
+}
+
+// What the fourth byte may be: 0; m + 16n with m at most n; m, at most 15.
+#[derive(Clone, Copy)]
+pub enum FourthByte {
+    Zero,
+    Range,
+    Count,
+}
+
+// What an operator fixes: the first and the last version in which it is known, the node's own sort, what x, y and the fourth byte may be, and the length of
+// its block in rewriting under a clock.
 #[derive(Clone, Copy)]
 pub struct Row {
     pub first: u8,
     pub last: u8,
-    pub own: u8,
-    pub x: u8,
-    pub limit: u8,
-    pub y: u8,
-    pub fourth: u8,
+    pub own: Option<Sort>,
+    pub x: Operand,
+    pub y: Operand,
+    pub fourth: FourthByte,
     pub block: u8,
 }
-
-// The sorts; 0 for none.
-pub const NONE: u8 = 0;
-
-pub const BOOLEAN: u8 = 1;
-
-pub const SEQUENCE: u8 = 2;
-
-pub const PROPERTY: u8 = 3;
-
-// What the fourth byte may be: 0; m + 16n with m at most n; m, at most 15.
-pub const ZERO: u8 = 0;
-
-pub const RANGE: u8 = 1;
-
-pub const COUNT: u8 = 2;
 
 // The versions of a table are 1 to `NEWEST`; those with base operators alone, which the engines read as they stand, are 1 to `BASE`.
 pub const NEWEST: usize = 3;
 
 pub const BASE: usize = 2;
 
+const OF_BOOLEAN: Operand = Operand::Node(Sort::Boolean);
+
+const OF_SEQUENCE: Operand = Operand::Node(Sort::Sequence);
+
+const OF_PROPERTY: Operand = Operand::Node(Sort::Property);
+
+const UNUSED: Operand = Operand::Below(1);
+
 const UNKNOWN: Row = Row {
     first: 0,
     last: 0,
-    own: NONE,
-    x: NONE,
-    limit: 0,
-    y: NONE,
-    fourth: ZERO,
+    own: None,
+    x: Operand::Below(0),
+    y: UNUSED,
+    fourth: FourthByte::Zero,
     block: 0,
 };
 
 const CONSTANT: Row = Row {
     first: 1,
     last: 4,
-    own: BOOLEAN,
-    x: NONE,
-    limit: 2,
-    y: NONE,
-    fourth: ZERO,
+    own: Some(Sort::Boolean),
+    x: Operand::Below(2),
+    y: UNUSED,
+    fourth: FourthByte::Zero,
     block: 1,
 };
 
+// Each later row says what it has other than the row that it names.
 const SIGNAL: Row = Row {
-    first: 1,
-    last: 4,
-    own: BOOLEAN,
-    x: NONE,
-    limit: 64,
-    y: NONE,
-    fourth: ZERO,
-    block: 1,
+    x: Operand::Below(64),
+    ..CONSTANT
 };
 
 // A signal risen, or fallen, since the sample before.
-const CHANGE: Row = Row {
-    first: 2,
-    last: 4,
-    own: BOOLEAN,
-    x: NONE,
-    limit: 64,
-    y: NONE,
-    fourth: ZERO,
-    block: 1,
-};
+const CHANGE: Row = Row { first: 2, ..SIGNAL };
 
 const BOOLEAN_NOT: Row = Row {
-    first: 1,
-    last: 4,
-    own: BOOLEAN,
-    x: BOOLEAN,
-    limit: 0,
-    y: NONE,
-    fourth: ZERO,
-    block: 1,
+    x: OF_BOOLEAN,
+    ..CONSTANT
 };
 
 const BOOLEAN_TWO: Row = Row {
-    first: 1,
-    last: 4,
-    own: BOOLEAN,
-    x: BOOLEAN,
-    limit: 0,
-    y: BOOLEAN,
-    fourth: ZERO,
-    block: 1,
-};
-
-const LETTER: Row = Row {
-    first: 1,
-    last: 4,
-    own: SEQUENCE,
-    x: BOOLEAN,
-    limit: 0,
-    y: NONE,
-    fourth: ZERO,
-    block: 9,
-};
-
-const SEQUENCE_TWO: Row = Row {
-    first: 1,
-    last: 4,
-    own: SEQUENCE,
-    x: SEQUENCE,
-    limit: 0,
-    y: SEQUENCE,
-    fourth: ZERO,
-    block: 1,
+    y: OF_BOOLEAN,
+    ..BOOLEAN_NOT
 };
 
 const SEQUENCE_ONE: Row = Row {
-    first: 1,
-    last: 4,
-    own: SEQUENCE,
-    x: SEQUENCE,
-    limit: 0,
-    y: NONE,
-    fourth: ZERO,
-    block: 1,
+    own: Some(Sort::Sequence),
+    x: OF_SEQUENCE,
+    ..CONSTANT
+};
+
+const SEQUENCE_TWO: Row = Row {
+    y: OF_SEQUENCE,
+    ..SEQUENCE_ONE
+};
+
+const LETTER: Row = Row {
+    x: OF_BOOLEAN,
+    block: 9,
+    ..SEQUENCE_ONE
 };
 
 const SEQUENCE_CLOCK: Row = Row {
-    first: 1,
-    last: 4,
-    own: SEQUENCE,
-    x: BOOLEAN,
-    limit: 0,
-    y: SEQUENCE,
-    fourth: ZERO,
+    x: OF_BOOLEAN,
     block: 0,
-};
-
-const OF_SEQUENCE: Row = Row {
-    first: 1,
-    last: 4,
-    own: PROPERTY,
-    x: SEQUENCE,
-    limit: 0,
-    y: NONE,
-    fourth: ZERO,
-    block: 1,
+    ..SEQUENCE_TWO
 };
 
 const PROPERTY_NOT: Row = Row {
-    first: 1,
-    last: 4,
-    own: PROPERTY,
-    x: PROPERTY,
-    limit: 0,
-    y: NONE,
-    fourth: ZERO,
-    block: 1,
+    own: Some(Sort::Property),
+    x: OF_PROPERTY,
+    ..CONSTANT
 };
 
 const PROPERTY_TWO: Row = Row {
-    first: 1,
-    last: 4,
-    own: PROPERTY,
-    x: PROPERTY,
-    limit: 0,
-    y: PROPERTY,
-    fourth: ZERO,
-    block: 1,
+    y: OF_PROPERTY,
+    ..PROPERTY_NOT
+};
+
+// strong and weak.
+const MATCHED: Row = Row {
+    x: OF_SEQUENCE,
+    ..PROPERTY_NOT
 };
 
 const IMPLIES: Row = Row {
-    first: 1,
-    last: 4,
-    own: PROPERTY,
-    x: SEQUENCE,
-    limit: 0,
-    y: PROPERTY,
-    fourth: ZERO,
-    block: 1,
+    x: OF_SEQUENCE,
+    ..PROPERTY_TWO
 };
 
 const NEXTTIME: Row = Row {
-    first: 1,
-    last: 4,
-    own: PROPERTY,
-    x: PROPERTY,
-    limit: 0,
-    y: NONE,
-    fourth: ZERO,
     block: 14,
+    ..PROPERTY_NOT
 };
 
 const UNTIL: Row = Row {
-    first: 1,
-    last: 4,
-    own: PROPERTY,
-    x: PROPERTY,
-    limit: 0,
-    y: PROPERTY,
-    fourth: ZERO,
     block: 9,
+    ..PROPERTY_TWO
 };
 
 const PROPERTY_CLOCK: Row = Row {
-    first: 1,
-    last: 4,
-    own: PROPERTY,
-    x: BOOLEAN,
-    limit: 0,
-    y: PROPERTY,
-    fourth: ZERO,
+    x: OF_BOOLEAN,
     block: 0,
+    ..PROPERTY_TWO
 };
 
 // The derived operators, which are expanded before anything is rewritten: [*m:n]; ##[m:n]; [->m] and [=m]; |=>, #-# and #=#; s_until; always,
@@ -231,73 +158,42 @@ const PROPERTY_CLOCK: Row = Row {
 const REPEATED: Row = Row {
     first: 3,
     last: 3,
-    own: SEQUENCE,
-    x: SEQUENCE,
-    limit: 0,
-    y: NONE,
-    fourth: RANGE,
-    block: 1,
+    fourth: FourthByte::Range,
+    ..SEQUENCE_ONE
 };
 
 const DELAYED: Row = Row {
-    first: 3,
-    last: 3,
-    own: SEQUENCE,
-    x: SEQUENCE,
-    limit: 0,
-    y: SEQUENCE,
-    fourth: RANGE,
-    block: 1,
+    y: OF_SEQUENCE,
+    ..REPEATED
 };
 
 const OCCURRING: Row = Row {
-    first: 3,
-    last: 3,
-    own: SEQUENCE,
-    x: BOOLEAN,
-    limit: 0,
-    y: NONE,
-    fourth: COUNT,
-    block: 1,
-};
-
-const DERIVED_IMPLIES: Row = Row {
-    first: 3,
-    last: 3,
-    own: PROPERTY,
-    x: SEQUENCE,
-    limit: 0,
-    y: PROPERTY,
-    fourth: ZERO,
-    block: 1,
+    x: OF_BOOLEAN,
+    fourth: FourthByte::Count,
+    ..REPEATED
 };
 
 const DERIVED_ONE: Row = Row {
     first: 3,
     last: 3,
-    own: PROPERTY,
-    x: PROPERTY,
-    limit: 0,
-    y: NONE,
-    fourth: ZERO,
-    block: 1,
+    ..PROPERTY_NOT
 };
 
 const DERIVED_TWO: Row = Row {
-    first: 3,
-    last: 3,
-    own: PROPERTY,
-    x: PROPERTY,
-    limit: 0,
-    y: PROPERTY,
-    fourth: ZERO,
-    block: 1,
+    y: OF_PROPERTY,
+    ..DERIVED_ONE
+};
+
+const DERIVED_IMPLIES: Row = Row {
+    x: OF_SEQUENCE,
+    ..DERIVED_TWO
 };
 
 // The row of an operator.
 #[tactic(auto, unfolding(crate::specs::Operators::operators, crate::specs::Operators::lookup, crate::specs::Operators::row_of))]
 pub fn row_of(op: u8) -> Row
-    ensures { result ≡ row_of op }
+    ensures row { row_numbers result ≡ row_of op }
+    ensures unused_y { operand_sort result.y ≡ none → operand_limit result.y ≡ 1 }
 {
     match op {
         0 => CONSTANT,
@@ -318,8 +214,8 @@ pub fn row_of(op: u8) -> Row
         24 => DELAYED,
         25 => OCCURRING,
         26 => OCCURRING,
-        32 => OF_SEQUENCE,
-        33 => OF_SEQUENCE,
+        32 => MATCHED,
+        33 => MATCHED,
         34 => PROPERTY_NOT,
         35 => PROPERTY_TWO,
         36 => PROPERTY_TWO,

@@ -2,17 +2,18 @@
 use native.Mathlib.Omega.{arith}
 use native.Mathlib.Numerals.{add-one}
 use native.Mathlib.Nat.{eq-or-lt_of_le, not-suc-le-zero, add-zero}
-use borrow.Author.Tests.{eqb-false, lt-ltb}
+use borrow.Author.Tests.{lt-ltb}
 use mathlib.Core.Path.{◌≡◌, refl, ◌∙◌, sym, ap}
 use mathlib.Core.Logic.{⊎_elim}
 use mathlib.Core.Bool.{Bool, true, false, not, cond}
 use mathlib.Core.List.{List}
+use Rattle.std.specs.Prelude.{Option, None}
 use Prim.Native.Nat.{ℕ, ◌+◌, ◌*◌, ◌-◌, ◌<◌, ◌≤◌}
 use lib.Dec.{eqb}
 use lib.ListN.{length, get_or, set, length-set}
 use lib.Seq.{get_or-set_same, get_or-set_other}
 use Rattle.refusal.specs.Heading.{count}
-use Rattle.nodes.specs.declared.operators.Row.{Row}
+use Rattle.nodes.specs.Operators.{Row}
 use Rattle.nodes.specs.declared.Raw.{Raw}
 use Rattle.nodes.specs.Operators.{boolean, row_of}
 use Rattle.nodes.specs.Nodes.{raw_at, row_at, sort_at}
@@ -23,12 +24,12 @@ use Rattle.clocks.proofs.Timing.{operand_below}
 use Rattle.clocks.proofs.HandingDown.{built, clock_read}
 use Rattle.numbers.specs.Numbers.{sum, is_boolean, is_other, length_under, length_of, new_count, taken, start_of, number_of}
 use Rattle.numbers.specs.declared.Counts.{Counts}
-use Rattle.numbers.specs.Computed.{CountsOf, Numbered}
+use Rattle.numbers.specs.Computed.{CountsOf}
 use Rattle.numbers.proofs.Sums.{sum_le}
 use Rattle.numbers.proofs.Numbering.{some_under, count_bound, count_split, start_fits, stands_last, stands_operand}
 
 -- what is known of node k, whose bytes are v, its row r and the length of its block `long`
-pub record Looked (s clocks : List ℕ) (k : ℕ) (v : Raw) (r : Row) (long : ℕ) : Type 0 where
+pub record Looked (s : List ℕ) (clocks : List (Option ℕ)) (k : ℕ) (v : Raw) (r : Row) (long : ℕ) : Type 0 where
   pub timed : Timed s clocks
   pub inside : k < count s
   pub bytes : v ≡ raw_at s k
@@ -36,19 +37,19 @@ pub record Looked (s clocks : List ℕ) (k : ℕ) (v : Raw) (r : Row) (long : �
   pub size : long ≡ length_of s (clock_by clocks) k
 
 -- the counts of the nodes below k
-pub record Summed (s clocks : List ℕ) (k b n : ℕ) : Type 0 where
+pub record Summed (s : List ℕ) (clocks : List (Option ℕ)) (k b n : ℕ) : Type 0 where
   pub booleans : b ≡ taken s (clock_by clocks) (is_boolean s) k
   pub all : n ≡ sum (length_of s (clock_by clocks)) k
 
 -- the numbers of the nodes below k, and where the block of k begins: among the booleans, and among the others
-pub record Begun (s clocks : List ℕ) (k : ℕ) (numbers : List ℕ) (first later : ℕ) : Type 0 where
+pub record Begun (s : List ℕ) (clocks : List (Option ℕ)) (k : ℕ) (numbers : List ℕ) (first later : ℕ) : Type 0 where
   pub size : length numbers ≡ 121
   pub booleans : first ≡ taken s (clock_by clocks) (is_boolean s) k
   pub others : later ≡ taken s (clock_by clocks) (is_boolean s) (count s) + taken s (clock_by clocks) (is_other s) k
   pub right : (j : ℕ) → j < k → get_or numbers j 0 ≡ number_of s (clock_by clocks) j
 
-module _ (s clocks : List ℕ) (k : ℕ) (v : Raw) (r : Row) (long : ℕ) where
-  pub looked : Timed s clocks → k < count s → v ≡ raw_at s k → r ≡ row_of v.op → long ≡ length_under (ref_of (get_or clocks k 0)) r.block → Looked s clocks k v r long
+module _ (s : List ℕ) (clocks : List (Option ℕ)) (k : ℕ) (v : Raw) (r : Row) (long : ℕ) where
+  pub looked : Timed s clocks → k < count s → v ≡ raw_at s k → r ≡ row_of v.op → long ≡ length_under (ref_of (get_or clocks k None)) r.block → Looked s clocks k v r long
   looked t h ev er e =
       let f = t.table.few in
       let q : r ≡ row_at s k = er ∙ ap (λ (w : Raw). row_of w.op) ev in
@@ -61,16 +62,24 @@ module _ (s clocks : List ℕ) (k : ℕ) (v : Raw) (r : Row) (long : ℕ) where
 
     -- ---- what the node adds
 
-    of_booleans : (a : ℕ) → a ≡ cond (eqb r.own boolean) long 0 → taken s (clock_by clocks) (is_boolean s) k + a ≡ taken s (clock_by clocks) (is_boolean s) (k + 1)
+    next_booleans : taken s (clock_by clocks) (is_boolean s) (k + 1)
+        ≡ cond (eqb r.own boolean) (taken s (clock_by clocks) (is_boolean s) k + long) (taken s (clock_by clocks) (is_boolean s) k)
     unfolding sum
-    of_booleans a e = rw (add-one k, e, tested, l.size)
-
-    of_others : (a : ℕ) → a ≡ cond (eqb r.own boolean) 0 long → taken s (clock_by clocks) (is_other s) k + a ≡ taken s (clock_by clocks) (is_other s) (k + 1)
-    unfolding sum
-    of_others a e = rw (add-one k, e, tested, l.size) (go (is_boolean s k))
+    next_booleans = rw (add-one k, tested, l.size) (go (is_boolean s k))
       where
-        go : (b : Bool) → taken s (clock_by clocks) (is_other s) k + cond b 0 (length_of s (clock_by clocks) k) ≡ taken s (clock_by clocks) (is_other s) k + cond (not b) (length_of s (clock_by clocks) k) 0
+        go : (b : Bool) → taken s (clock_by clocks) (is_boolean s) k + cond b (length_of s (clock_by clocks) k) 0
+            ≡ cond b (taken s (clock_by clocks) (is_boolean s) k + length_of s (clock_by clocks) k) (taken s (clock_by clocks) (is_boolean s) k)
         go true = refl
+        go false = add-zero _
+
+    next_others : taken s (clock_by clocks) (is_other s) (k + 1)
+        ≡ cond (eqb r.own boolean) (taken s (clock_by clocks) (is_other s) k) (taken s (clock_by clocks) (is_other s) k + long)
+    unfolding sum
+    next_others = rw (add-one k, tested, l.size) (go (is_boolean s k))
+      where
+        go : (b : Bool) → taken s (clock_by clocks) (is_other s) k + cond (not b) (length_of s (clock_by clocks) k) 0
+            ≡ cond b (taken s (clock_by clocks) (is_other s) k) (taken s (clock_by clocks) (is_other s) k + length_of s (clock_by clocks) k)
+        go true = add-zero _
         go false = refl
 
     of_all : sum (length_of s (clock_by clocks)) k + long ≡ sum (length_of s (clock_by clocks)) (k + 1)
@@ -79,9 +88,6 @@ module _ (s clocks : List ℕ) (k : ℕ) (v : Raw) (r : Row) (long : ℕ) where
 
     all_in : sum (length_of s (clock_by clocks)) (k + 1) ≤ new_count s (clock_by clocks)
     all_in = let h = l.inside in sum_le (length_of s (clock_by clocks)) (k + 1) (count s) (omega arith)
-
-    others_in : taken s (clock_by clocks) (is_other s) (k + 1) ≤ taken s (clock_by clocks) (is_other s) (count s)
-    others_in = let h = l.inside in sum_le (λ j. cond (is_other s j) (length_of s (clock_by clocks) j) 0) (k + 1) (count s) (omega arith)
 
     -- ---- counts
 
@@ -95,80 +101,77 @@ module _ (s clocks : List ℕ) (k : ℕ) (v : Raw) (r : Row) (long : ℕ) where
           let f = l.timed.table.few in
           omega arith
 
-      module _ (a : ℕ) (e : a ≡ cond (eqb r.own boolean) long 0) where
-        pub booleans_fit : booleans + a ≤ 14 * 120
-        booleans_fit =
-            let q = i.booleans in
-            let m = of_booleans a e in
-            let p = count_split s (clock_by clocks) (k + 1) in
-            let n = all_in in
-            let b = count_bound s (clock_by clocks) in
-            let f = l.timed.table.few in
-            omega arith
+      pub booleans_fit : booleans + long ≤ 14 * 120
+      booleans_fit =
+          let q = i.booleans in
+          let a = i.all in
+          let p = count_split s (clock_by clocks) k in
+          let f = all_fits in
+          omega arith
 
-        pub summed_more : Summed s clocks (k + 1) (booleans + a) (all + long)
-        summed_more = record { booleans = ap (λ (m : ℕ). m + a) i.booleans ∙ of_booleans a e; all = ap (λ (m : ℕ). m + long) i.all ∙ of_all }
+      pub summed_more : (t : Bool) → t ≡ eqb r.own boolean → (a : ℕ) → a ≡ cond t (booleans + long) booleans → Summed s clocks (k + 1) a (all + long)
+      summed_more t et a e = record { booleans = e ∙ rw (et, i.booleans) (sym next_booleans); all = ap (λ (m : ℕ). m + long) i.all ∙ of_all }
 
     -- ---- numbers
 
     module _ (few : new_count s (clock_by clocks) ≤ 120) (numbers : List ℕ) (first later : ℕ) (i : Begun s clocks k numbers first later) where
-      pub first_fits : (a : ℕ) → a ≡ cond (eqb r.own boolean) long 0 → first + a ≤ 120
-      first_fits a e =
-          let f = i.booleans in
-          let m = of_booleans a e in
-          let p = count_split s (clock_by clocks) (k + 1) in
-          let n = all_in in
-          omega arith
-
-      pub later_fits : (a : ℕ) → a ≡ cond (eqb r.own boolean) 0 long → later + a ≤ 120
-      later_fits a e =
-          let f = i.others in
-          let m = of_others a e in
-          let n = others_in in
-          let p = count_split s (clock_by clocks) (count s) in
-          omega arith
-
-      module _ (start : ℕ) (es : start ≡ cond (eqb r.own boolean) first later) where
+      module _ (t : Bool) (et : t ≡ eqb r.own boolean) (start : ℕ) (es : start ≡ cond t first later) where
         starts : start ≡ start_of s (clock_by clocks) k
         unfolding start_of
-        starts = es ∙ rw (tested, i.booleans, i.others)
+        starts = es ∙ rw (et, tested, i.booleans, i.others)
 
         -- the block lies among the new nodes, and that of no clock node has a node
         pub ends : start + long ≤ 120
         ends = rw (starts, l.size) (let b = start_fits s (clock_by clocks) k l.inside in omega arith)
 
-        pub some : eqb r.block 0 ≡ false → 1 ≤ start + long
+        pub some : ¬ (r.block ≡ 0) → 1 ≤ start + long
         some f =
-            let b = some_under (clock_by clocks k) (row_at s k).block (eqb-false _ 0 (ap (λ (u : Row). eqb u.block 0) (sym l.row) ∙ f)) in
+            let b = some_under (clock_by clocks k) (row_at s k).block (λ z. f (ap (λ (u : Row). u.block) l.row ∙ z)) in
             let e = l.size in
             omega arith
 
-        -- the number that the code gives to the node, where m is where its operand's is kept
-        module _ (m : ℕ) (em : m ≡ named_by v.y) (u : ℕ) (eu : u ≡ cond (eqb r.block 0) (get_or numbers m 0) (start + long - 1)) where
+        -- where the next block of its kind begins
+        first_next : cond t (start + long) first ≡ taken s (clock_by clocks) (is_boolean s) (k + 1)
+        first_next = rw (es, et, i.booleans, next_booleans) (go (eqb r.own boolean))
+          where
+            go : (b : Bool) → cond b (cond b (taken s (clock_by clocks) (is_boolean s) k) later + long) (taken s (clock_by clocks) (is_boolean s) k)
+                ≡ cond b (taken s (clock_by clocks) (is_boolean s) k + long) (taken s (clock_by clocks) (is_boolean s) k)
+            go true = refl
+            go false = refl
+
+        later_next : cond t later (start + long) ≡ taken s (clock_by clocks) (is_boolean s) (count s) + taken s (clock_by clocks) (is_other s) (k + 1)
+        later_next = rw (es, et, next_others) (go (eqb r.own boolean))
+          where
+            go : (b : Bool) → cond b later (cond b first later + long)
+                ≡ taken s (clock_by clocks) (is_boolean s) (count s) + cond b (taken s (clock_by clocks) (is_other s) k) (taken s (clock_by clocks) (is_other s) k + long)
+            go true = i.others
+            go false = let e = i.others in omega arith
+
+        -- the number that the code gives to the node
+        module _ (u : ℕ) (eu : u ≡ cond (eqb r.block 0) (get_or numbers (named_by v.y) 0) (start + long - 1)) where
           number_is : u ≡ number_of s (clock_by clocks) k
           unfolding is_clock named_by
           number_is = eu ∙ rw l.row (go (is_clock s k) refl)
             where
-              go : (b : Bool) → is_clock s k ≡ b → cond b (get_or numbers m 0) (start + long - 1) ≡ number_of s (clock_by clocks) k
+              go : (b : Bool) → is_clock s k ≡ b → cond b (get_or numbers (named_by v.y) 0) (start + long - 1) ≡ number_of s (clock_by clocks) k
               go true q =
                   let o = built l.timed.table in
                   let y = operand_below s k (o.fit k l.inside) q in
                   let h = l.inside in
                   let f = o.few in
-                  let z : m ≡ (raw_at s k).y = em ∙ rw (l.bytes, lt-ltb (raw_at s k).y 120 (omega arith)) in
+                  let z : named_by v.y ≡ (raw_at s k).y = rw (l.bytes, lt-ltb (raw_at s k).y 120 (omega arith)) in
                   rw (z, i.right (raw_at s k).y y) (sym (stands_operand s (clock_by clocks) o.fit k h q))
               go false q = rw (starts, l.size) (sym (stands_last s (clock_by clocks) (built l.timed.table).fit k l.inside q))
 
-          pub begun_more : (a : ℕ) → a ≡ cond (eqb r.own boolean) long 0 → (z : ℕ) → z ≡ cond (eqb r.own boolean) 0 long
-              → Begun s clocks (k + 1) (set numbers k u) (first + a) (later + z)
+          pub begun_more : (a : ℕ) → a ≡ cond t (start + long) first → (z : ℕ) → z ≡ cond t later (start + long) → Begun s clocks (k + 1) (set numbers k u) a z
           begun_more a ea z ez =
               let h = l.inside in
               let f = l.timed.table.few in
               let n = i.size in
               record {
                 size = simp length-set n;
-                booleans = ap (λ (m : ℕ). m + a) i.booleans ∙ of_booleans a ea;
-                others = (let e = i.others in let g = of_others z ez in omega arith);
+                booleans = ea ∙ first_next;
+                others = ez ∙ later_next;
                 right = λ j b.
                     ⊎_elim
                     (λ (e : j ≡ k). rw (e, get_or-set_same numbers k u 0 (omega arith)) number_is)
@@ -178,12 +181,14 @@ module _ (s clocks : List ℕ) (k : ℕ) (v : Raw) (r : Row) (long : ℕ) where
 
 -- ---- before the first node, and after the last
 
-module _ (s clocks : List ℕ) where
-  pub summed_all : (n : ℕ) → n ≡ count s → (k : ℕ) → k ≤ n → n ≤ k → (b a : ℕ) → Summed s clocks k b a
-      → CountsOf s clocks (record { booleans = b; all = a }) × ((b ≤ 14 * n) × (a ≤ 14 * n))
-  summed_all n e k h g b a i =
-      let q : k ≡ count s = omega arith in
-      let j : Summed s clocks (count s) b a = rw q at i in
+module _ (s : List ℕ) (clocks : List (Option ℕ)) where
+  -- the code's count is that of the new nodes
+  pub few_counted : (counts : Counts) → CountsOf s clocks counts → counts.all ≤ 120 → new_count s (clock_by clocks) ≤ 120
+  few_counted counts e l = rw (sym e.all) l
+
+  pub summed_all : (k : ℕ) → k ≡ count s → (b a : ℕ) → Summed s clocks k b a → CountsOf s clocks (record { booleans = b; all = a }) × ((b ≤ 14 * count s) × (a ≤ 14 * count s))
+  summed_all k e b a i =
+      let j : Summed s clocks (count s) b a = rw e at i in
       let m = count_bound s (clock_by clocks) in
       let p = count_split s (clock_by clocks) (count s) in
       let f = j.booleans in
@@ -193,7 +198,3 @@ module _ (s clocks : List ℕ) where
   pub begun_none : (counts : Counts) → CountsOf s clocks counts → (numbers : List ℕ) → length numbers ≡ 121 → Begun s clocks 0 numbers 0 counts.booleans
   unfolding sum
   begun_none counts e numbers n = record { size = n; booleans = refl; others = e.booleans ∙ sym (add-zero _); right = λ j l. absurd (not-suc-le-zero l) }
-
-  pub begun_all : Timed s clocks → (n : ℕ) → n ≡ count s → (k : ℕ) → k ≤ n → n ≤ k → (numbers : List ℕ) (first later : ℕ) → Begun s clocks k numbers first later
-      → Numbered s clocks numbers
-  begun_all t n e k h g numbers first later i = record { timed = t; size = i.size; right = λ j l. i.right j (omega arith) }

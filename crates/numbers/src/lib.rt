@@ -1,17 +1,14 @@
 // How many new nodes there are, and the new number of each node: first all booleans in their order, then one block per other node in order.
 #![tactic(auto)]
 
-ghost use Rattle.std.specs.Prelude.{◌≡◌, cond, false, ◌*◌, ◌-◌, ◌<◌, ◌≤◌, length};
+ghost use Rattle.std.specs.Prelude.{◌≡◌, ◌*◌, ◌≤◌};
 ghost use Rattle.refusal.specs.Heading.{count};
 ghost use Rattle.clocks.specs.Computed.{ref_of, Timed};
 ghost use Rattle.numbers.specs.Numbers.{length_under};
 ghost use Rattle.numbers.specs.Computed.{CountsOf, Numbered};
 
-use clocks::UNCLOCKED;
-use encoding::low;
-use nodes::operators::{BOOLEAN, row_of};
-use nodes::{named, node_at};
-use refusal::wide;
+use nodes::operators::{Sort, row_of};
+use nodes::{SLOTS, count_of, named, node_at};
 
 // How many new nodes there are: of the booleans, and of all.
 #[derive(Clone, Copy)]
@@ -20,72 +17,61 @@ pub struct Counts {
     pub all: usize,
 }
 
-// One of two numbers, so that the loops below have no branch of their own.
-fn choose(which: bool, a: usize, b: usize) -> usize
-    ensures { result ≡ cond which a b }
-{
-    if which { a } else { b }
-}
-
 // The length of a block. The operator's row has it for a node under a clock; with no clock it is one node, of a clock node none.
-pub fn length_under(clock: u8, block: u8) -> usize
+#[tactic(auto, unfolding(crate::specs::Numbers::length_under))]
+pub fn length_under(clock: Option<u8>, block: u8) -> usize
     ensures { result ≡ length_under (ref_of clock) block }
 {
-    let long = wide(block);
-    if clock == UNCLOCKED {
-        if long < 1 { long } else { 1 }
-    } else {
-        long
+    match clock {
+        None => usize::from(block.min(1)),
+        Some(_) => usize::from(block),
     }
 }
 
-// The counts of the n nodes' blocks.
-pub fn counts_of(b: &[u8], n: usize, clocks: &[u8]) -> Counts
-    requires { Timed b.now clocks.now × (n ≡ count b.now) }
+// The counts of the nodes' blocks.
+pub fn counts_of(b: &[u8], clocks: &[Option<u8>; SLOTS]) -> Counts
+    requires { Timed b.now clocks.now }
     ensures counts_of { CountsOf b.now clocks.now result }
-    ensures bounds { (result.booleans ≤ 14 * n) × (result.all ≤ 14 * n) }
+    ensures bounds { (result.booleans ≤ 14 * count b.now) × (result.all ≤ 14 * count b.now) }
 {
-    let mut booleans: usize = 0;
-    let mut all: usize = 0;
-    let mut k: usize = 0;
-    while k < n {
+    let mut booleans = 0;
+    let mut all = 0;
+    for k in 0..count_of(b) {
         let v = node_at(b, k);
         let r = row_of(v.op);
         let long = length_under(clocks[k], r.block);
-        booleans = booleans + choose(r.own == BOOLEAN, long, 0);
-        all = all + long;
-        k = k + 1;
+        if r.own == Some(Sort::Boolean) {
+            booleans += long;
+        }
+        all += long;
     }
     Counts { booleans, all }
 }
 
-// The number of the node that stands for a node whose block ends before `end`; for a clock node its operand's.
-fn stands(clock: bool, operand: u8, end: usize) -> u8
-    requires { (end ≤ 120) × (clock ≡ false → 1 ≤ end) }
-    ensures { result ≡ cond clock operand (end - 1) }
-{
-    if clock { operand } else { low(end - 1) }
-}
-
-// The new numbers of the n nodes, where there are so many new nodes, in the bytes lent.
-pub fn numbers_of(b: &[u8], n: usize, clocks: &[u8], counts: Counts, numbers: &mut [u8])
-    requires timed { Timed b.now clocks.now × (n ≡ count b.now) }
-    requires counts_of { CountsOf b.now clocks.now counts × (counts.all ≤ 120) × (length numbers.old ≡ 121) }
+// The new numbers of the nodes, where there are so many new nodes, in the places lent. A block's last node stands for its node; for a clock node its
+// operand's does.
+pub fn numbers_of(b: &[u8], clocks: &[Option<u8>; SLOTS], counts: Counts, numbers: &mut [u8; SLOTS])
+    requires timed { Timed b.now clocks.now }
+    requires counts_of { CountsOf b.now clocks.now counts × (counts.all ≤ 120) }
     ensures { Numbered b.now clocks.now numbers.new }
 {
-    let mut first: usize = 0;
+    let mut first = 0;
     let mut later = counts.booleans;
-    let mut k: usize = 0;
-    while k < n {
+    for k in 0..count_of(b) {
         let v = node_at(b, k);
         let r = row_of(v.op);
-        let boolean = r.own == BOOLEAN;
-        let long = length_under(clocks[k], r.block);
-        let start = choose(boolean, first, later);
-        let operand = numbers[named(v.y)];
-        numbers[k] = stands(r.block == 0, operand, start + long);
-        first = first + choose(boolean, long, 0);
-        later = later + choose(boolean, 0, long);
-        k = k + 1;
+        let boolean = r.own == Some(Sort::Boolean);
+        let start = if boolean { first } else { later };
+        let end = start + length_under(clocks[k], r.block);
+        numbers[k] = if r.block == 0 {
+            numbers[named(v.y)]
+        } else {
+            (end - 1) as u8
+        };
+        if boolean {
+            first = end;
+        } else {
+            later = end;
+        }
     }
 }

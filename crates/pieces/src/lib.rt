@@ -62,58 +62,62 @@ pub struct Step {
     pub y: Piece,
 }
 
-// A step, with its operator and operands.
-pub fn over(op: u8, x: Piece, y: Piece) -> Step
-    ensures { result ≡ step op x y }
-{
-    Step { op, x, y }
-}
+impl Step {
+    // With two operands.
+    pub fn over(op: u8, x: Piece, y: Piece) -> Step
+        ensures { result ≡ step op x y }
+    {
+        Step { op, x, y }
+    }
 
-// A step with one operand.
-pub fn one(op: u8, x: Piece) -> Step
-    ensures { result ≡ step op x (Byte 0) }
-{
-    Step {
-        op,
-        x,
-        y: Piece::Byte(0),
+    // With one operand.
+    pub fn one(op: u8, x: Piece) -> Step
+        ensures { result ≡ step op x (Byte 0) }
+    {
+        Step::over(op, x, Piece::Byte(0))
     }
 }
 
-// A letter of the boolean b.
-fn letter(b: u8) -> Piece
-    ensures { result ≡ SequenceOf (LetterOf b) }
-{
-    Piece::SequenceOf(SequencePiece::LetterOf(b))
+impl Piece {
+    // A letter of the boolean b.
+    fn letter(b: u8) -> Piece
+        ensures { result ≡ SequenceOf (LetterOf b) }
+    {
+        Piece::SequenceOf(SequencePiece::LetterOf(b))
+    }
+
+    // not x.
+    fn not(x: usize) -> Piece
+        ensures { result ≡ PropertyOf (NotOf x) }
+    {
+        Piece::PropertyOf(PropertyPiece::NotOf(x))
+    }
 }
 
-// not x.
-fn not(x: usize) -> Piece
-    ensures { result ≡ PropertyOf (NotOf x) }
-{
-    Piece::PropertyOf(PropertyPiece::NotOf(x))
-}
+#[tactic(auto, unfolding(crate::specs::Pieces::subject_piece))]
+impl From<Subject> for Piece {
+    ghost from_gives = { λ o p. p ≡ subject_piece o };
 
-// The piece that is repeated.
-fn subject_piece(o: Subject) -> Piece
-    ensures { result ≡ subject_piece o }
-{
-    match o {
-        Subject::Whole(x) => Piece::NodeOf(x),
-        Subject::OneLetter(c) => letter(c),
-        Subject::Group(c, b) => Piece::SequenceOf(SequencePiece::GroupOf(c, b)),
+    // The piece that is repeated.
+    fn from(o: Subject) -> Piece {
+        match o {
+            Subject::Whole(x) => Piece::NodeOf(x),
+            Subject::OneLetter(c) => Piece::letter(c),
+            Subject::Group(c, b) => Piece::SequenceOf(SequencePiece::GroupOf(c, b)),
+        }
     }
 }
 
 // Of [*m].
+#[tactic(auto, unfolding(crate::specs::Steps::times_step))]
 pub fn times_step(o: Subject, m: usize) -> Step
     ensures { result ≡ times_step o m }
 {
-    let repeated = subject_piece(o);
+    let repeated = Piece::from(o);
     if m == 0 {
-        one(20, repeated)
+        Step::one(20, repeated)
     } else {
-        over(
+        Step::over(
             17,
             Piece::SequenceOf(SequencePiece::Times(o, m - 1)),
             repeated,
@@ -122,87 +126,98 @@ pub fn times_step(o: Subject, m: usize) -> Step
 }
 
 // Of [*m:n].
+#[tactic(auto, unfolding(crate::specs::Steps::range_step))]
 pub fn range_step(o: Subject, m: usize, n: usize) -> Step
     ensures { result ≡ range_step o m n }
 {
     if m < n {
         let shorter = Piece::SequenceOf(SequencePiece::Range(o, m, n - 1));
-        over(19, shorter, Piece::SequenceOf(SequencePiece::Times(o, n)))
+        Step::over(19, shorter, Piece::SequenceOf(SequencePiece::Times(o, n)))
     } else {
         times_step(o, m)
     }
 }
 
 // Of x ##[m:n] y, where c is 1.
+#[tactic(auto, unfolding(crate::specs::Steps::delay_step))]
 pub fn delay_step(x: usize, y: usize, c: u8, m: usize, n: usize) -> Step
     ensures { result ≡ delay_step x y c m n }
 {
     if n == 0 {
-        return over(18, Piece::NodeOf(x), Piece::NodeOf(y));
+        return Step::over(18, Piece::NodeOf(x), Piece::NodeOf(y));
     }
     if m == 0 {
         let meeting = Piece::SequenceOf(SequencePiece::Meeting(x, y));
-        return over(
+        return Step::over(
             19,
             meeting,
             Piece::SequenceOf(SequencePiece::Later(x, y, c, 0, n - 1)),
         );
     }
     let delay = Piece::SequenceOf(SequencePiece::Delay(x, c, m - 1, n - 1));
-    over(17, delay, Piece::NodeOf(y))
+    Step::over(17, delay, Piece::NodeOf(y))
 }
 
 // Of a piece that is a sequence.
+#[tactic(auto, unfolding(crate::specs::Steps::sequence_step))]
 pub fn sequence_step(q: SequencePiece) -> Step
     ensures { result ≡ sequence_step q }
 {
     match q {
-        SequencePiece::LetterOf(b) => one(16, Piece::Byte(b)),
-        SequencePiece::NoLetter(b) => one(20, letter(b)),
-        SequencePiece::Letters(b) => one(21, letter(b)),
-        SequencePiece::AnyLetters(b) => over(
+        SequencePiece::LetterOf(b) => Step::one(16, Piece::Byte(b)),
+        SequencePiece::NoLetter(b) => Step::one(20, Piece::letter(b)),
+        SequencePiece::Letters(b) => Step::one(21, Piece::letter(b)),
+        SequencePiece::AnyLetters(b) => Step::over(
             19,
             Piece::SequenceOf(SequencePiece::NoLetter(b)),
             Piece::SequenceOf(SequencePiece::Letters(b)),
         ),
-        SequencePiece::GroupOf(c, b) => over(
+        SequencePiece::GroupOf(c, b) => Step::over(
             17,
             Piece::SequenceOf(SequencePiece::AnyLetters(c)),
-            letter(b),
+            Piece::letter(b),
         ),
         SequencePiece::Times(o, m) => times_step(o, m),
         SequencePiece::Range(o, m, n) => range_step(o, m, n),
-        SequencePiece::Meeting(x, y) => over(18, Piece::NodeOf(x), Piece::NodeOf(y)),
-        SequencePiece::Delay(x, c, m, n) => over(
+        SequencePiece::Meeting(x, y) => Step::over(18, Piece::NodeOf(x), Piece::NodeOf(y)),
+        SequencePiece::Delay(x, c, m, n) => Step::over(
             17,
             Piece::NodeOf(x),
             Piece::SequenceOf(SequencePiece::Range(Subject::OneLetter(c), m, n)),
         ),
-        SequencePiece::Later(x, y, c, m, n) => over(
+        SequencePiece::Later(x, y, c, m, n) => Step::over(
             17,
             Piece::SequenceOf(SequencePiece::Delay(x, c, m, n)),
             Piece::NodeOf(y),
         ),
-        SequencePiece::NextLetter(x, c) => over(17, Piece::NodeOf(x), letter(c)),
+        SequencePiece::NextLetter(x, c) => Step::over(17, Piece::NodeOf(x), Piece::letter(c)),
     }
 }
 
 // Of a piece that is a property.
+#[tactic(auto, unfolding(crate::specs::Steps::property_step))]
 pub fn property_step(p: PropertyPiece) -> Step
     ensures { result ≡ property_step p }
 {
     match p {
-        PropertyPiece::NotOf(x) => one(34, Piece::NodeOf(x)),
-        PropertyPiece::ImpliesNot(x, y) => over(37, Piece::NodeOf(x), not(y)),
-        PropertyPiece::ImpliesNextNot(x, y, c) => over(
+        PropertyPiece::NotOf(x) => Step::one(34, Piece::NodeOf(x)),
+        PropertyPiece::ImpliesNot(x, y) => Step::over(37, Piece::NodeOf(x), Piece::not(y)),
+        PropertyPiece::ImpliesNextNot(x, y, c) => Step::over(
             37,
             Piece::SequenceOf(SequencePiece::NextLetter(x, c)),
-            not(y),
+            Piece::not(y),
         ),
-        PropertyPiece::WeakOf(c) => one(33, letter(c)),
-        PropertyPiece::Never(x, c) => over(39, not(x), Piece::PropertyOf(PropertyPiece::WeakOf(c))),
-        PropertyPiece::UntilOf(x, y) => over(39, Piece::NodeOf(x), Piece::NodeOf(y)),
-        PropertyPiece::EventuallyOf(x, c) => one(34, Piece::PropertyOf(PropertyPiece::Never(x, c))),
-        PropertyPiece::NextNot(x) => one(38, not(x)),
+        PropertyPiece::WeakOf(c) => Step::one(33, Piece::letter(c)),
+        PropertyPiece::Never(x, c) => Step::over(
+            39,
+            Piece::not(x),
+            Piece::PropertyOf(PropertyPiece::WeakOf(c)),
+        ),
+        PropertyPiece::UntilOf(x, y) => Step::over(39, Piece::NodeOf(x), Piece::NodeOf(y)),
+        PropertyPiece::EventuallyOf(x, c) => Step::one(
+            34,
+            Piece::PropertyOf(PropertyPiece::Never(x, c)),
+        ),
+        PropertyPiece::NextNot(x) => Step::one(38, Piece::not(x)),
     }
 }

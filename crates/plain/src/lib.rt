@@ -1,21 +1,23 @@
 // The plain judge: it reads the clocked table directly, rewrites nothing and writes to nothing that is lent.
 #![tactic(auto)]
 
-ghost use Rattle.std.specs.Prelude.{◌≡◌, ◌≤◌};
+ghost use Rattle.std.specs.Prelude.{◌≡◌, ◌≤◌, length, MatchResult};
+ghost use Rattle.refusal.specs.First.{Answers};
 ghost use Rattle.refusal.specs.Heading.{count};
+ghost use Rattle.refusal.specs.Reasons.{verdict_of};
 ghost use Rattle.conditions.specs.Conditions.{Shaped};
-ghost use Rattle.plain.specs.Judges.{PlainJudges};
+ghost use Rattle.plain.specs.Judges.{plain_refusals, PlainJudges};
 ghost use Rattle.plain.specs.Computed.{root_level, RootTold};
 
-use cells::{LONGEST, all_samples};
+use cells::{LONGEST, Span, all_samples};
 use conditions::conditions;
 use judgement::{Judgement, refused};
 use meaning::Level;
-use nodes::operators::SEQUENCE;
+use nodes::operators::{BASE, Sort};
 use nodes::sort_at;
-use refusal::{Verdict, wide};
+use refusal::{Reason, Verdict};
 use steps::Told;
-use table::check;
+use table::checked;
 use ticking::Ticks;
 use walk::property_row;
 
@@ -27,46 +29,46 @@ fn level_of(root: Told) -> Level
     Level::from_answers(holds.strong.has(0), holds.neutral.has(0), holds.weak.has(0))
 }
 
-// What the property at the root of the m nodes answers, under no clock: each sample counts.
-fn root_told(table: &[u8], samples: &[u64], m: usize) -> Told
-    requires { Shaped table.now samples.now × (m ≡ count table.now) × (1 ≤ m) }
+// What the property at the root answers, under no clock: each sample counts.
+fn root_told(table: &[u8], samples: &[u64]) -> Told
+    requires { Shaped table.now samples.now × (1 ≤ count table.now) }
     ensures { RootTold table.now samples.now result }
 {
-    let booleans = conditions(table, samples, m);
+    let m = usize::from(table[5]);
+    let booleans = conditions(table, samples);
+    let span = Span { n: samples.len() };
     let clock = Ticks {
         clocked: false,
-        at: all_samples(samples.len()),
+        at: all_samples(span),
     };
     property_row(table, samples, &booleans, m - 1, clock)
+}
+
+// The judgement of a table and a record that are not refused, or the first reason to refuse.
+fn judged(table: &[u8], samples: &[u64]) -> Result<Judgement, Reason>
+    ensures { MatchResult result (λ r. PlainJudges table.now samples.now r) (λ reason. Answers (plain_refusals table.now (length samples.now)) (verdict_of reason)) }
+{
+    let m = checked(table, BASE)?;
+    if sort_at(table, m - 1) == Some(Sort::Sequence) {
+        return Err(Reason::WrongRoot);
+    }
+    if samples.len() > LONGEST {
+        return Err(Reason::ManySamples);
+    }
+    let root = root_told(table, samples);
+    Ok(Judgement {
+        verdict: Verdict::ACCEPTED,
+        level: level_of(root),
+        tested: root.tested.has(0),
+    })
 }
 
 // The level at which the property at the table's root holds on the samples, and whether they test it.
 pub fn plain_judge(table: &[u8], samples: &[u64]) -> Judgement
     ensures { PlainJudges table.now samples.now result }
 {
-    let verdict = check(table);
-    if verdict.number != 0 {
-        return refused(verdict);
-    }
-    let m = wide(table[5]);
-    let sequence = sort_at(table, m - 1) == SEQUENCE;
-    let long = LONGEST < samples.len();
-    if sequence {
-        return refused(Verdict {
-            number: 12,
-            node: 0,
-        });
-    }
-    if long {
-        return refused(Verdict {
-            number: 10,
-            node: 0,
-        });
-    }
-    let root = root_told(table, samples, m);
-    Judgement {
-        verdict,
-        level: level_of(root),
-        tested: root.tested.has(0),
+    match judged(table, samples) {
+        Ok(judgement) => judgement,
+        Err(reason) => refused(Verdict::from(reason)),
     }
 }

@@ -7,7 +7,7 @@ ghost use Rattle.telling.specs.Tells.{some};
 ghost use Rattle.positions.specs.Member.{has, Is, Lowest};
 
 // All places but 0, so that moved up by i it has the places after i.
-const ABOVE_ZERO: u64 = 18446744073709551614;
+const ABOVE_ZERO: u64 = u64::MAX - 1;
 
 #[repr(C)]
 #[derive(Clone, Copy)]
@@ -17,6 +17,7 @@ pub struct PositionSet {
 
 impl PositionSet {
     // No place.
+    #[tactic(auto, using(crate::proofs::Laws::has_none))]
     pub fn empty() -> Self
         ensures { Is result.bits (λ k. false) }
     {
@@ -24,6 +25,7 @@ impl PositionSet {
     }
 
     // Place i alone.
+    #[tactic(auto, using(crate::proofs::Laws::has_shl_one))]
     pub fn one(i: usize) -> Self
         requires { i ≤ 63 }
         ensures { Is result.bits (λ k. eqb k i) }
@@ -32,6 +34,7 @@ impl PositionSet {
     }
 
     // The set with place i added.
+    #[tactic(auto, using(crate::proofs::Laws::has_or, crate::proofs::Laws::has_shl_one))]
     pub fn with(self, i: usize) -> Self
         requires { i ≤ 63 }
         ensures { Is result.bits (λ k. has self.bits k || eqb k i) }
@@ -57,6 +60,7 @@ impl PositionSet {
     }
 
     // The places of either set.
+    #[tactic(auto, using(crate::proofs::Laws::has_or))]
     pub fn joined(self, other: PositionSet) -> Self
         ensures { Is result.bits (λ k. has self.bits k || has other.bits k) }
     {
@@ -66,6 +70,7 @@ impl PositionSet {
     }
 
     // The places of both sets.
+    #[tactic(auto, using(crate::proofs::Laws::has_and))]
     pub fn common(self, other: PositionSet) -> Self
         ensures { Is result.bits (λ k. has self.bits k && has other.bits k) }
     {
@@ -75,6 +80,7 @@ impl PositionSet {
     }
 
     // The places of the set that the other lacks.
+    #[tactic(auto, using(crate::proofs::Laws::has_and_not))]
     pub fn without(self, other: PositionSet) -> Self
         ensures { Is result.bits (λ k. has self.bits k && not (has other.bits k)) }
     {
@@ -84,6 +90,7 @@ impl PositionSet {
     }
 
     // All places 0 to n.
+    #[tactic(auto, using(crate::proofs::Laws::has_upto))]
     pub fn full(n: usize) -> Self
         requires { n ≤ 63 }
         ensures { Is result.bits (λ k. leb k n) }
@@ -110,6 +117,7 @@ impl PositionSet {
     }
 
     // The set's places from i on.
+    #[tactic(auto, using(crate::proofs::Laws::has_from))]
     pub fn from(self, i: usize) -> Self
         requires { i ≤ 63 }
         ensures { Is result.bits (λ k. has self.bits k && leb i k) }
@@ -120,6 +128,7 @@ impl PositionSet {
     }
 
     // The set's places after i.
+    #[tactic(auto, using(crate::proofs::Laws::has_after))]
     pub fn after(self, i: usize) -> Self
         requires { i ≤ 63 }
         ensures { Is result.bits (λ k. has self.bits k && ltb i k) }
@@ -130,6 +139,7 @@ impl PositionSet {
     }
 
     // Each place moved down by d; the places below d are dropped.
+    #[tactic(auto, using(crate::proofs::Laws::has_down))]
     pub fn down_by(self, d: usize) -> Self
         requires { d ≤ 63 }
         ensures { Is result.bits (λ k. has self.bits (d + k)) }
@@ -140,6 +150,7 @@ impl PositionSet {
     }
 
     // Each place moved down by one; place 0 is dropped.
+    #[tactic(auto, using(crate::proofs::Laws::has_suc))]
     pub fn down(self) -> Self
         ensures { Is result.bits (λ k. has self.bits (suc k)) }
     {
@@ -149,6 +160,7 @@ impl PositionSet {
     }
 
     // Each place moved up by one; place 63 is dropped.
+    #[tactic(auto, using(crate::proofs::Laws::has_doubled))]
     pub fn up(self) -> Self
         ensures { Is result.bits (λ k. (leb 1 k && has self.bits (k - 1)) && ltb k 64) }
     {
@@ -158,6 +170,7 @@ impl PositionSet {
     }
 
     // Whether place i is in the set.
+    #[tactic(auto, using(crate::proofs::Laws::has_test))]
     pub fn has(self, i: usize) -> bool
         requires { i ≤ 63 }
         ensures { result ≡ has self.bits i }
@@ -166,6 +179,7 @@ impl PositionSet {
     }
 
     // Whether the set has no place.
+    #[tactic(auto, using(crate::proofs::Laws::is_none))]
     pub fn is_empty(self) -> bool
         ensures { result ≡ not (some (has self.bits) 0 64) }
     {
@@ -186,14 +200,16 @@ impl PositionSet {
         self.without(other).is_empty()
     }
 
-    // The lowest place of the set, and 64 of the empty set.
+    // The lowest place of the set, and 64 of the empty set: who asks has a set that is not empty, or compares the place with the last one.
+    #[tactic(auto, using(crate::proofs::Lowest::trailing_lowest))]
     pub fn lowest(self) -> usize
         ensures { Lowest 64 self.bits result }
     {
-        u64::trailing_zeros(self.bits) as usize
+        self.bits.trailing_zeros() as usize
     }
 
     // The set without its lowest place l: the set is not empty.
+    #[tactic(auto, using(crate::proofs::Lowest::has_rest))]
     pub fn rest(self) -> Self
         requires { 0 < self.bits }
         ensures without_lowest { (l : ℕ) → Lowest 64 self.bits l → Is result.bits (λ k. has self.bits k && not (eqb k l)) }

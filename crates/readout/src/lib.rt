@@ -9,6 +9,7 @@ use cells::word_at;
 use meaning::Level;
 
 // The level of a property node: its three answers from position 0.
+#[tactic(auto, unfolding(crate::specs::Computed::level_in))]
 pub fn level_of(ws: &[u64], root: usize) -> Level
     requires { HasRow (length ws.now) root }
     ensures { result.number ≡ level_in ws.now root }

@@ -2,52 +2,40 @@
 -- Assumes nothing.
 use mathlib.Core.Path.{◌≡◌, refl, ◌∙◌, sym}
 use mathlib.Core.List.{List, [], ◌∷◌, ◌++◌}
-use Prim.Native.Nat.{ℕ, zero, suc, ◌+◌, ◌*◌, ◌≤◌, ◌<◌}
-use native.Mathlib.Nat.{add-zero}
+use Prim.Native.Nat.{ℕ, zero, suc, ◌+◌, ◌*◌, ◌-◌, ◌≤◌, ◌<◌}
 use native.Mathlib.Numerals.{add-one}
 use native.Mathlib.Omega.{arith}
 use lib.ListN.{length, get_or, take, drop, set, length-append, length-drop}
-use lib.Seq.{get_or-drop, drop-drop, drop-cons, set_at, append_snoc}
+use lib.Seq.{length-take-le, drop-cons, set_at, append_snoc}
 use Rattle.refusal.specs.Heading.{number}
 use Rattle.record.specs.Record.{sample_at, samples}
 
 -- ---- bytes
 
-first_four : (t : List ℕ) → 4 ≤ length t → number (take 4 t) ≡ get_or t 0 0 + 256 * (get_or t 1 0 + 256 * (get_or t 2 0 + 256 * get_or t 3 0))
-first_four [] l = absurd (omega arith)
-first_four (a ∷ []) l = absurd (omega arith)
-first_four (a ∷ b ∷ []) l = absurd (omega arith)
-first_four (a ∷ b ∷ c ∷ []) l = absurd (omega arith)
-first_four (a ∷ b ∷ c ∷ d ∷ t) l = omega arith
+-- the sum of 8 bytes, as `from_le_bytes` has it
+abbrev pub eight : (ℕ → ℕ) → ℕ
+eight f =
+    f 0 + f 1 * 256 + f 2 * 65536 + f 3 * 16777216 + f 4 * 4294967296 + f 5 * 1099511627776 + f 6 * 281474976710656 + f 7 * 72057594037927936
 
--- 8 bytes are the first 4 and the next 4
-in_halves : (t : List ℕ) → number (take 8 t) ≡ number (take 4 t) + 4294967296 * number (take 4 (drop 4 t))
-in_halves [] = refl
-in_halves (a ∷ []) = omega arith
-in_halves (a ∷ b ∷ []) = omega arith
-in_halves (a ∷ b ∷ c ∷ []) = omega arith
-in_halves (a ∷ b ∷ c ∷ d ∷ t) = omega arith
+in_eight : (t : List ℕ) → length t ≡ 8 → eight (λ k. get_or t k 0) ≡ number t
+in_eight [] l = absurd (omega arith)
+in_eight (a ∷ []) l = absurd (omega arith)
+in_eight (a ∷ b ∷ []) l = absurd (omega arith)
+in_eight (a ∷ b ∷ c ∷ []) l = absurd (omega arith)
+in_eight (a ∷ b ∷ c ∷ d ∷ []) l = absurd (omega arith)
+in_eight (a ∷ b ∷ c ∷ d ∷ e ∷ []) l = absurd (omega arith)
+in_eight (a ∷ b ∷ c ∷ d ∷ e ∷ f ∷ []) l = absurd (omega arith)
+in_eight (a ∷ b ∷ c ∷ d ∷ e ∷ f ∷ g ∷ []) l = absurd (omega arith)
+in_eight (a ∷ b ∷ c ∷ d ∷ e ∷ f ∷ g ∷ h ∷ []) l = omega arith
+in_eight (a ∷ b ∷ c ∷ d ∷ e ∷ f ∷ g ∷ h ∷ i ∷ t) l = absurd (omega arith)
 
 module _ (s : List ℕ) where
-  -- half a sample from its bytes
-  pub half : (at : ℕ) → at + 4 ≤ length s → (x y z w : ℕ) → x ≡ get_or s at 0 → y ≡ get_or s (at + 1) 0 → z ≡ get_or s (at + 2) 0 → w ≡ get_or s (at + 3) 0
-      → x + 256 * (y + 256 * (z + 256 * w)) ≡ number (take 4 (drop at s))
-  half at l x y z w ex ey ez ew =
-      let e = first_four (drop at s) (simp length-drop (omega arith)) in
-      let e0 = get_or-drop at s 0 0 in
-      let e1 = get_or-drop at s 1 0 in
-      let e2 = get_or-drop at s 2 0 in
-      let e3 = get_or-drop at s 3 0 in
-      let e4 : get_or s (at + 0) 0 ≡ get_or s at 0 = rw add-zero in
-      omega arith
-
-  -- a sample from its halves
-  pub whole : (i x y : ℕ) → x ≡ number (take 4 (drop (6 + 8 * i) s)) → y ≡ number (take 4 (drop (6 + 8 * i + 4) s)) → x + 4294967296 * y ≡ sample_at s i
+  -- a sample from its bytes
+  pub sample_is : (i : ℕ) → 6 + 8 * (i + 1) ≤ length s → eight (λ k. get_or (take (6 + 8 * i + 8 - (6 + 8 * i)) (drop (6 + 8 * i) s)) k 0) ≡ sample_at s i
   unfolding sample_at
-  whole i x y ex ey =
-      let e = in_halves (drop (6 + 8 * i) s) in
-      let f : drop 4 (drop (6 + 8 * i) s) ≡ drop (6 + 8 * i + 4) s = drop-drop 4 (6 + 8 * i) s in
-      rw (ex, ey, ← f) (sym e)
+  sample_is i l =
+      let n : 6 + 8 * i + 8 - (6 + 8 * i) ≡ 8 = omega arith in
+      rw n (in_eight (take 8 (drop (6 + 8 * i) s)) (length-take-le 8 (drop (6 + 8 * i) s) (simp length-drop (omega arith))))
 
   -- ---- words
 

@@ -1,14 +1,14 @@
--- Laws of `first`, the lowest number that a test passes: what is found passes and nothing below it does; and the steps of a loop that looks for it.
+-- Laws of `first`, the lowest number that a test passes: what is found passes and nothing below it does; and what a loop that looks for it has found.
 -- Assumes nothing.
-use borrow.Author.Tests.{ltb-true, ltb-false}
+use borrow.Author.Tests.{ltb-true, ltb-false, lt-ltb}
 use mathlib.Core.Path.{◌≡◌, refl, ◌∙◌, sym}
 use mathlib.Core.Bool.{Bool, true, false, cond, true≢false}
 use Prim.Native.Nat.{ℕ, zero, suc, ◌+◌, ◌-◌, ◌<◌, ◌≤◌}
 use native.Mathlib.Nat.{sub-zero, zero-add, add-zero, not-suc-le-zero, le_of_suc-le-suc, suc-add, add-suc}
-use native.Mathlib.Numerals.{add-one}
 use native.Mathlib.Omega.{arith}
 use lib.Dec.{ltb}
-use Rattle.refusal.specs.Computed.{first_of, first}
+use Rattle.std.proofs.Common.{Some, None}
+use Rattle.refusal.specs.Computed.{first_of, first, found}
 
 module _ (p : ℕ → Bool) where
   -- below what is found no test passes
@@ -55,31 +55,37 @@ module _ (p : ℕ → Bool) where
         go true q = absurd (true≢false (sym e ∙ below_found k l (ltb-true k (first p 0 n) q)))
         go false q = ltb-false k (first p 0 n) q
 
--- ---- a loop keeps that what is looked for from 0 on is what is looked for from k on; t is what the code has of the test at k
+-- ---- a loop that goes up from 0: no number that it has passed passes the test
 
-module _ (p : ℕ → Bool) (k n : ℕ) where
-  one_less : k < n → n - k ≡ suc (n - (k + 1))
-  one_less h = omega arith
+module _ (p : ℕ → Bool) (n : ℕ) where
+  pub found_here : (k : ℕ) → k < n → ((j : ℕ) → j < k → p j ≡ false) → p k ≡ true → Some k ≡ found p n
+  found_here k l before e =
+      let here : first p 0 n ≡ k = go (ltb (first p 0 n) k) refl in
+      let below : ltb (first p 0 n) n ≡ true = lt-ltb _ _ (omega arith) in
+      rw (below, here)
+    where
+      go : (b : Bool) → ltb (first p 0 n) k ≡ b → first p 0 n ≡ k
+      go true q = let h = ltb-true (first p 0 n) k q in absurd (true≢false (sym (found_passes p n (omega arith)) ∙ before (first p 0 n) h))
+      go false q = let h = ltb-false (first p 0 n) k q in let g = found_at p n k l e in omega arith
 
-  pub skipped : k < n → p k ≡ false → first p k n ≡ first p (k + 1) n
-  unfolding first_of
-  skipped h e = rw (one_less h, e, add-one k)
+  pub found_nowhere : (k : ℕ) → n ≤ k → ((j : ℕ) → j < k → p j ≡ false) → None ≡ found p n
+  found_nowhere k l before = go (ltb (first p 0 n) n) refl
+    where
+      go : (b : Bool) → ltb (first p 0 n) n ≡ b → None ≡ cond b (Some (first p 0 n)) None
+      go true q = let h = ltb-true (first p 0 n) n q in absurd (true≢false (sym (found_passes p n h) ∙ before (first p 0 n) (omega arith)))
+      go false q = refl
 
-  pub stopped : k < n → p k ≡ true → first p k n ≡ k
-  unfolding first_of
-  stopped h e = rw (one_less h, e)
+  -- what is found, as tests
+  pub found_some : (k : ℕ) → Some k ≡ found p n → (ltb (first p 0 n) n ≡ true) × (first p 0 n ≡ k)
+  found_some k = go (ltb (first p 0 n) n)
+    where
+      go : (b : Bool) → Some k ≡ cond b (Some (first p 0 n)) None → (b ≡ true) × (first p 0 n ≡ k)
+      go true e = (refl, cc)
+      go false e = cc
 
-  pub ended : n ≤ k → first p k n ≡ k
-  unfolding first_of
-  ended h = let z : n - k ≡ 0 = omega arith in rw z
-
-  module _ (i : first p 0 n ≡ first p k n) where
-    pub missed : k ≤ n → n ≤ k → n ≡ first p 0 n
-    missed g h = let e : k ≡ n = omega arith in sym (i ∙ ended h ∙ e)
-
-    module _ (h : k < n) (t : Bool) (e : t ≡ p k) where
-      pub on : t ≡ false → first p 0 n ≡ first p (k + 1) n
-      on f = i ∙ skipped h (sym e ∙ f)
-
-      pub found : t ≡ true → k ≡ first p 0 n
-      found f = sym (i ∙ stopped h (sym e ∙ f))
+  pub found_none : None ≡ found p n → ltb (first p 0 n) n ≡ false
+  found_none = go (ltb (first p 0 n) n)
+    where
+      go : (b : Bool) → None ≡ cond b (Some (first p 0 n)) None → b ≡ false
+      go true e = cc
+      go false e = refl

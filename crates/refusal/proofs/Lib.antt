@@ -5,3 +5,4 @@ pub mod Deciding
 pub mod Given
 pub mod Unique
 pub mod Headings
+pub mod Errors

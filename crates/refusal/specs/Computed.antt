@@ -1,6 +1,6 @@
 -- The first refusal that applies, the lowest node that a test passes, and the tests of the first six bytes, as antt computes them: what the code is
 -- held to. `proofs/Deciding.antt` and `proofs/Headings.antt` show that they are those of First.antt and Heading.antt. Assumes nothing.
-use Rattle.std.specs.Prelude.{Bool, not, cond, ◌&&◌, List, [], ◌∷◌, ℕ, zero, suc, ◌-◌, ltb, leb, eqb, length, get_or}
+use Rattle.std.specs.Prelude.{Bool, not, cond, ◌&&◌, List, [], ◌∷◌, ℕ, zero, suc, ◌-◌, ltb, leb, eqb, length, get_or, Option, Some, None}
 use Rattle.refusal.specs.declared.Verdict.{Verdict}
 use Rattle.refusal.specs.Heading.{version}
 
@@ -18,6 +18,10 @@ first_of p i (suc m) = cond (p i) i (first_of p (suc i) m)
 -- the first number from i on and below n at which p passes, or n
 abbrev pub first : (ℕ → Bool) → ℕ → ℕ → ℕ
 first p i n = first_of p i (n - i)
+
+-- the first number below n at which p passes, if there is one
+abbrev pub found : (ℕ → Bool) → ℕ → Option ℕ
+found p n = cond (ltb (first p 0 n) n) (Some (first p 0 n)) None
 
 -- a refusal as a test, and the answer where it passes
 pub record Case : Type 0 where

@@ -49,7 +49,7 @@ last_sort ν ρ at r e = go (view ρ r.op)
 
 pub version_new : (s : List ℕ) (clock : ℕ → Ref) → 6 ≤ length s → version (new_table s clock) ≡ version s
 unfolding new_table
-version_new s clock l = let e = version_is s l (get_or s 3 0) (get_or s 4 0) refl refl in omega arith
+version_new s clock l = let e = version_is s l in omega arith
 
 -- ---- the list of new nodes
 

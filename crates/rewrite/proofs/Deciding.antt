@@ -26,8 +26,7 @@ use Rattle.table.proofs.Checking.{checks, checks_only, checks_none, checks_given
 use Rattle.clocks.specs.Clocks.{Clocks}
 use Rattle.clocks.proofs.Timing.{clocks_exist, clocks_unique}
 use Rattle.numbers.specs.Numbers.{new_count}
-use Rattle.rewrite.specs.declared.Rewriting.{Rewriting}
-use Rattle.rewrite.specs.Rewrites.{OfClocks, refusals, Rewrites}
+use Rattle.rewrite.specs.Rewrites.{OfClocks, refusals}
 
 -- ---- the table, accepted
 
@@ -36,9 +35,6 @@ module _ (s : List ℕ) where
   all_refuse : T (refuses (Table.cases s))
   unfolding heading_cases later_cases node_cases
   all_refuse = tt
-
-  pub checks_accepted : (v : Verdict) → Checks s v → v.number ≡ 0 → Checks s accepted
-  checks_accepted v c z = checks_none s (checks_given s v c z)
 
   -- ---- the count of new nodes, by the one assignment of clocks
 
@@ -125,6 +121,3 @@ module _ (s : List ℕ) where
 module _ (s d : List ℕ) where
   pub answered : (v : Verdict) → v ≡ first_case (cases s (length d)) → Answers (refusals s (length d)) v
   answered v e = rw e (answers (cases s (length d)) (refusals s (length d)) (decides s (length d)))
-
-  pub declines : (r : Rewriting) → r.verdict ≡ first_case (cases s (length d)) → ¬ (r.verdict.number ≡ 0) → r.count ≡ 0 → Rewrites s d r d
-  declines r e h z = record { answer = answered r.verdict e; accepted = λ q. absurd (h q); refused = λ _. (z, refl) }

@@ -18,5 +18,6 @@ pub mod Tiling
 pub mod Hits
 pub mod Places
 pub mod Accepting
--- The code: its refusals.
+-- The code: its refusals, and what it answers at each exit.
 pub mod Deciding
+pub mod Exits

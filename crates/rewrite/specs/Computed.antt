@@ -1,23 +1,26 @@
--- What the code answers with a refusal, and what it hands on of each node. Assumes nothing.
-use Rattle.std.specs.Prelude.{◌≡◌, List, ℕ}
+-- What rewriting comes to, as the code answers it, and what it hands on of each node. Assumes nothing.
+use Rattle.std.specs.Prelude.{◌≡◌, List, ℕ, Option, Result, Ok, Err}
 use Rattle.refusal.specs.declared.Verdict.{Verdict}
-use Rattle.refusal.specs.Computed.{refused}
+use Rattle.refusal.specs.declared.Reason.{Reason}
+use Rattle.refusal.specs.Computed.{accepted}
+use Rattle.refusal.specs.Reasons.{verdict_of}
 use Rattle.numbers.specs.Computed.{Numbered}
 use Rattle.rewrite.specs.declared.Rewriting.{Rewriting}
 use Rattle.rewrite.specs.Rewrites.{Rewrites}
 
--- a refusal: its number and node, with count 0
-abbrev pub refused_rewriting : ℕ → ℕ → Rewriting
-refused_rewriting number node = record { verdict = refused number node; count = 0 }
+-- an acceptance with the count of new nodes; a refusal with count 0
+abbrev pub rewriting_by : Result ℕ Reason → Rewriting
+rewriting_by (Ok m) = record { verdict = accepted; count = m }
+rewriting_by (Err reason) = record { verdict = verdict_of reason; count = 0 }
 
 -- what rewriting answers, with what it leaves of each node: its clock and its new number
 pub record Renumbered : Type 0 where
   pub verdict : Verdict
   pub count : ℕ
-  pub clocks : List ℕ
+  pub clocks : List (Option ℕ)
   pub numbers : List ℕ
 
-abbrev pub renumbered : Rewriting → List ℕ → List ℕ → Renumbered
+abbrev pub renumbered : Rewriting → List (Option ℕ) → List ℕ → Renumbered
 renumbered r clocks numbers = record { verdict = r.verdict; count = r.count; clocks = clocks; numbers = numbers }
 
 abbrev pub rewriting_of : Renumbered → Rewriting

@@ -7,9 +7,8 @@ ghost use Rattle.cells.specs.Stored.{with_row};
 ghost use Rattle.rows.specs.Rows.{three_row, node_row, filled, Ready, Fits};
 
 use booleans::boolean_set;
-use cells::{SHARE, clear};
-use nodes::{Node, decode, node_at};
-use positions::PositionSet;
+use cells::{SHARE, Span, clear};
+use nodes::{Node, node_at};
 use properties::{Suffixes, suffixes_of};
 use sequences::put_sequence;
 
@@ -31,20 +30,19 @@ fn put_row(ws: &mut [u64], samples: &[u64], k: usize, node: Node)
     ensures { ws.new ≡ with_row ws.old k (node_row (take (share * k) ws.old) samples.now node) }
 {
     let at = SHARE * k;
+    let span = Span { n: samples.len() };
     match node {
         Node::Boolean(op) => {
             let set = boolean_set(&ws[..at], SHARE, samples, op);
-            let none = PositionSet::empty();
             let words = Suffixes {
                 neutral: set,
-                weak: none,
-                strong: none,
+                ..Suffixes::none()
             };
             put_three(ws, k, words);
         }
-        Node::Sequence(op) => put_sequence(ws, k, op, samples.len()),
+        Node::Sequence(op) => put_sequence(ws, k, op, span),
         Node::Property(op) => {
-            let words = suffixes_of(&ws[..at], samples.len(), op);
+            let words = suffixes_of(&ws[..at], span, op);
             put_three(ws, k, words);
         }
     }
@@ -55,9 +53,7 @@ pub fn fill(table: &[u8], samples: &[u64], ws: &mut [u64], m: usize)
     requires { Fits table.now samples.now ws.old m }
     ensures { ws.new ≡ filled table.now samples.now ws.old m }
 {
-    let mut k: usize = 0;
-    while k < m {
-        put_row(ws, samples, k, decode(node_at(table, k)));
-        k += 1;
+    for k in 0..m {
+        put_row(ws, samples, k, Node::from(node_at(table, k)));
     }
 }

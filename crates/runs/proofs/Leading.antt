@@ -2,11 +2,12 @@
 use mathlib.Core.Path.{◌≡◌, refl, sym, ap, ap₂, ◌∙◌}
 use mathlib.Core.Logic.{◌⊎◌, inl, inr, ⊎_elim}
 use mathlib.Core.Bool.{Bool, ◌||◌, ◌&&◌, or-false, and-true}
-use Prim.Native.Nat.{ℕ, suc, ◌+◌, ◌-◌, ◌^◌, ◌≤◌, ◌<◌}
-use native.Mathlib.Nat.{eq-or-lt_of_le, lt_of_not-le}
+use Prim.Native.Nat.{ℕ, suc, ◌+◌, ◌-◌, ◌*◌, ◌%◌, ◌^◌, ◌≤◌, ◌<◌}
+use native.Mathlib.Nat.{mod-eq_of_lt, one-mul}
+use native.Mathlib.Numerals.{add-one}
 use native.Mathlib.Omega.{arith}
 use lib.Dec.{T}
-use lib.Pow.{pow_pos, pow_mono, pow-lt}
+use lib.Pow.{pow-lt}
 use Rattle.telling.specs.Tells.{Tells, some, every}
 use Rattle.telling.proofs.Telling.{is_map, is_test, is_and, is_or, is_some, is_every, same_test, side}
 use Rattle.positions.specs.Member.{has, Is}
@@ -90,24 +91,20 @@ led_turn l d x y h f = record {
   out = λ k. f.out k ∙ ap₂ ◌||◌ (h.out k) (ap₂ ◌&&◌ (h.runs k) (h.out (d + k))) ∙ sym (reach_more _ _ d d k);
 }
 
--- the distance is a power of 2 up to 64, so that the loop, which ends at 64 or beyond, ends at 64
-pub record Power (d : ℕ) : Type 0 where
-  pub times : ℕ
-  pub most : times ≤ 6
-  pub is : d ≡ 2 ^ times
+-- ---- by the number of turns, each of which shifts 1 by one place more
 
-pub power_one : Power 1
-power_one = record { times = 0; most = omega arith; is = refl }
+shifted : (i : ℕ) → i < 6 → (1 * 2 ^ i) % 2 ^ 64 ≡ 2 ^ i
+shifted i t =
+    let small : i < 64 = omega arith in
+    rw (one-mul, mod-eq_of_lt (pow-lt small))
 
-pub power_pos : (d : ℕ) → Power d → 0 < d
-power_pos d h = rw h.is (pow_pos h.times)
+pub shifted_most : (i : ℕ) → i < 6 → (1 * 2 ^ i) % 2 ^ 64 ≤ 63
+shifted_most i t = omega (arith, shifted i t, pow-lt t)
 
-power_last : (d : ℕ) → Power d → 64 ≤ d → d ≡ 64
-power_last d h l = ⊎_elim (λ e. h.is ∙ ap (λ t. 2 ^ t) e) (λ (g : h.times < 6). absurd (omega (arith, h.is, pow-lt g))) (eq-or-lt_of_le h.most)
+pub led_next : (l : Led) (i : ℕ) (x y : Led) → i < 6 → LedBy l (2 ^ i) x → Further x ((1 * 2 ^ i) % 2 ^ 64) y → LedBy l (2 ^ (i + 1)) y
+led_next l i x y t h f =
+    let next : 2 ^ i + 2 ^ i ≡ 2 ^ suc i = omega arith in
+    rw (add-one, ← next) (led_turn l (2 ^ i) x y h (rw (shifted i t) at f))
 
-pub power_more : (d : ℕ) → Power d → d < 64 → Power (d + d)
-power_more d h l = record { times = suc h.times; most = lt_of_not-le (λ (g : 6 ≤ h.times). omega (arith, h.is, pow_mono g)); is = omega (arith, h.is) }
-
--- the loop has ended
-pub led_all : (l : Led) (d : ℕ) (x : Led) → Power d → 64 ≤ d → LedBy l d x → Is x.out.bits (led l)
-led_all l d x p g h k = h.out k ∙ rw (power_last d p g) (reach_is _ _ k)
+pub led_out : (l : Led) (i : ℕ) (x : Led) → i ≡ 6 → LedBy l (2 ^ i) x → Is x.out.bits (led l)
+led_out l i x e h k = (rw e at h).out k ∙ reach_is _ _ k

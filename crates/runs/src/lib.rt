@@ -25,15 +25,13 @@ pub fn further(l: Led, d: usize) -> Led
     }
 }
 
-// The places from which a run of any length leads up.
+// The places from which a run of any length leads up: turn k looks 2^k places on.
 pub fn lead(l: Led) -> PositionSet
     ensures { Is result.bits (led l) }
 {
     let mut a = l;
-    let mut d: usize = 1;
-    while d < 64 {
-        a = further(a, d);
-        d = d + d;
+    for k in 0..6usize {
+        a = further(a, 1 << k);
     }
     a.out
 }

@@ -7,10 +7,10 @@ use Prim.Native.Nat.{ℕ, ◌≤◌}
 use lib.ListN.{drop}
 use Rattle.refusal.specs.declared.Verdict.{Verdict}
 use Rattle.refusal.specs.First.{Refusal, Answers, NotGiven}
-use Rattle.refusal.specs.Heading.{version, count, Known}
+use Rattle.refusal.specs.Heading.{count}
 use Rattle.refusal.specs.Computed.{accepted}
 use Rattle.refusal.proofs.Given.{none_given, not_given-append}
-use Rattle.nodes.specs.Operators.{sequence, property, base}
+use Rattle.nodes.specs.Operators.{sequence, property}
 use Rattle.nodes.specs.NodeClock.{Ref}
 use Rattle.table.specs.Check as Check
 use Rattle.table.specs.Check.{Checks}
@@ -39,9 +39,6 @@ module _ (s : List ℕ) (x : Refusal) (rest : List Refusal) (n : NotGiven (Check
 
   pub table_built : Built s
   table_built = (sound s accepted table_checks refl).formed
-
-  pub table_known : Known base (version s)
-  table_known = (sound s accepted table_checks refl).known
 
   pub same_clocks : (clock other : ℕ → Ref) → Clocks s clock → Clocks s other → clock ≡ other
   same_clocks = clocks_unique s table_built

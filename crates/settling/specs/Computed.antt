@@ -29,10 +29,10 @@ settling s wrong n start words = Check.refusals s ++ own_refusals s wrong n star
 pub record Settles (s : List ℕ) (wrong n start words : ℕ) (d : List ℕ) (r : Renumbered) (d' : List ℕ) : Type 0 where
   -- the first that applies
   pub answer : Answers (settling s wrong n start words) r.verdict
-  -- the count and the bytes are as rewriting answers and leaves them
+  -- the bytes are as rewriting leaves them; with no refusal the count is its own
   pub rewriting : Rewriting
   pub rewrites : Rewrites s d rewriting d'
-  pub count : r.count ≡ rewriting.count
+  pub count : r.verdict.number ≡ 0 → r.count ≡ rewriting.count
   -- with none, the rewritten table, and the clock and the new number of each node
   pub numbered : r.verdict.number ≡ 0 → Numbered s r.clocks r.numbers
   pub accepted : r.verdict.number ≡ 0 → OfClocks s (λ clock. (r.count ≡ new_count s clock) × (take (4 * r.count + 6) d' ≡ new_table s clock))

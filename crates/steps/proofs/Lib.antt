@@ -1,3 +1,2 @@
--- Laws of rows laid side by side, and of sets that are joined.
+-- Laws of rows laid side by side.
 pub mod Copies
-pub mod Joining

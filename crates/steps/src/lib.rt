@@ -3,12 +3,11 @@
 
 mod beside;
 
-ghost use Rattle.std.specs.Prelude.{◌≡◌, ◌≤◌, length};
-ghost use Rattle.cells.specs.Shares.{share, longest};
+ghost use Rattle.std.specs.Prelude.{◌≡◌};
 ghost use Rattle.steps.specs.Steps.{sequence_clock, property_clock, SequenceStep, PropertyStep, NextStep, UntilStep};
 
-use beside::{pair_row, row_in};
-use cells::starts_into;
+use beside::pair_row;
+use cells::{Span, starts_into};
 use nodes::{PropertyOp, SequenceOp};
 use positions::PositionSet;
 use properties::{Suffixes, any_of, both_of, implies_of, next_of, not_of, strong_of, weak_of};
@@ -27,18 +26,11 @@ pub fn sequence_clock(op: SequenceOp, c: PositionSet, clock: Ticks) -> Ticks
     ensures { result ≡ sequence_clock op c clock }
 {
     match op {
-        SequenceOp::Letter(_) => clock,
-        SequenceOp::Then(_, _) => clock,
-        SequenceOp::Fused(_, _) => clock,
-        SequenceOp::Either(_, _) => clock,
-        SequenceOp::Empty(_) => clock,
-        SequenceOp::Repeat(_) => clock,
         SequenceOp::Clocked(_, _) => Ticks {
             clocked: true,
             at: c,
         },
-        // A derived operator is expanded before: no table here has one.
-        SequenceOp::Derived(_) => clock,
+        _ => clock,
     }
 }
 
@@ -47,72 +39,62 @@ pub fn property_clock(op: PropertyOp, c: PositionSet, clock: Ticks) -> Ticks
     ensures { result ≡ property_clock op c clock }
 {
     match op {
-        PropertyOp::Strong(_) => clock,
-        PropertyOp::Weak(_) => clock,
-        PropertyOp::Negated(_) => clock,
-        PropertyOp::AnyOf(_, _) => clock,
-        PropertyOp::BothOf(_, _) => clock,
-        PropertyOp::Implies(_, _) => clock,
-        PropertyOp::Next(_) => clock,
-        PropertyOp::Until(_, _) => clock,
         PropertyOp::Ticked(_, _) => Ticks {
             clocked: true,
             at: c,
         },
-        PropertyOp::Defined(_) => clock,
+        _ => clock,
     }
 }
 
-// A sequence's row from those of its operands, x and y: a letter's from b, the samples that satisfy it, and the ticks; a clock node's is that of what it clocks.
+// A sequence's row from those of its operands, x and y: a letter's from b, the samples that satisfy it, and the ticks; a clock node's is that of what it
+// clocks.
 pub fn sequence_step(
     x: &[u64; 65],
     y: &[u64; 65],
     b: PositionSet,
     ticks: PositionSet,
     op: SequenceOp,
-    n: usize,
+    span: Span,
 ) -> [u64; 65]
-    requires { (length x.now ≡ share) × (length y.now ≡ share) × (n ≤ longest) }
-    ensures { SequenceStep x.now y.now b.bits ticks.bits n op result }
+    ensures { SequenceStep x.now y.now b.bits ticks.bits span.n op result }
 {
     match op {
-        SequenceOp::Letter(_) => letter_row(b, ticks, n),
-        SequenceOp::Then(_, _) => pair_row(x, y, SequenceOp::Then(0, 1), n),
-        SequenceOp::Fused(_, _) => pair_row(x, y, SequenceOp::Fused(0, 1), n),
-        SequenceOp::Either(_, _) => pair_row(x, y, SequenceOp::Either(0, 1), n),
-        SequenceOp::Empty(_) => pair_row(x, y, SequenceOp::Empty(0), n),
-        SequenceOp::Repeat(_) => pair_row(x, y, SequenceOp::Repeat(0), n),
-        SequenceOp::Clocked(_, _) => row_in(y, 0),
-        SequenceOp::Derived(_) => row_in(y, 0),
+        SequenceOp::Letter(_) => letter_row(b, ticks, span),
+        SequenceOp::Then(_, _) => pair_row(x, y, SequenceOp::Then(0, 1), span),
+        SequenceOp::Fused(_, _) => pair_row(x, y, SequenceOp::Fused(0, 1), span),
+        SequenceOp::Either(_, _) => pair_row(x, y, SequenceOp::Either(0, 1), span),
+        SequenceOp::Empty(_) => pair_row(x, y, SequenceOp::Empty(0), span),
+        SequenceOp::Repeat(_) => pair_row(x, y, SequenceOp::Repeat(0), span),
+        // A derived operator is expanded before: no table here has one.
+        SequenceOp::Clocked(_, _) | SequenceOp::Derived(_) => *y,
     }
 }
 
 // nexttime P, with a clock or with none.
-fn next_step(p: Told, clock: Ticks, n: usize) -> Told
-    requires { n ≤ longest }
-    ensures { NextStep p clock n result }
+fn next_step(p: Told, clock: Ticks, span: Span) -> Told
+    ensures { NextStep p clock span.n result }
 {
     if clock.clocked {
         return Told {
-            holds: next_under(clock.at, n, p.holds),
-            tested: second_tick(clock.at, n, false, p.tested),
+            holds: next_under(clock.at, span, p.holds),
+            tested: second_tick(clock.at, span, false, p.tested),
         };
     }
     Told {
-        holds: next_of(p.holds, n),
+        holds: next_of(p.holds, span),
         tested: p.tested.down(),
     }
 }
 
 // P until Q: at a tick one of the two is tested, and at each earlier one P holds and Q does not.
-fn until_step(p: Told, q: Told, clock: Ticks, n: usize) -> Told
-    requires { n ≤ longest }
-    ensures { UntilStep p q clock n result }
+fn until_step(p: Told, q: Told, clock: Ticks, span: Span) -> Told
+    ensures { UntilStep p q clock span.n result }
 {
     let before = p.holds.neutral.without(q.holds.neutral);
     Told {
-        holds: until_under(clock, n, p.holds, q.holds),
-        tested: tick_run(clock.at, n, false, before, p.tested.joined(q.tested)),
+        holds: until_under(clock, span, p.holds, q.holds),
+        tested: tick_run(clock.at, span, false, before, p.tested.joined(q.tested)),
     }
 }
 
@@ -123,25 +105,24 @@ pub fn property_step(
     q: Told,
     op: PropertyOp,
     clock: Ticks,
-    n: usize,
+    span: Span,
 ) -> Told
-    requires { (length x.now ≡ share) × (n ≤ longest) }
-    ensures { PropertyStep x.now p q clock n op result }
+    ensures { PropertyStep x.now p q clock span.n op result }
 {
     let first = p.holds;
     let second = q.holds;
     let asked = p.tested;
     match op {
         PropertyOp::Strong(_) => Told {
-            holds: strong_of(x, n, 0),
-            tested: PositionSet::full(n),
+            holds: strong_of(x, span, 0),
+            tested: PositionSet::full(span.n),
         },
         PropertyOp::Weak(_) => Told {
-            holds: weak_of(x, n, 0),
-            tested: PositionSet::full(n),
+            holds: weak_of(x, span, 0),
+            tested: PositionSet::full(span.n),
         },
         PropertyOp::Negated(_) => Told {
-            holds: not_of(first, n),
+            holds: not_of(first, span),
             tested: asked,
         },
         PropertyOp::AnyOf(_, _) => Told {
@@ -153,12 +134,11 @@ pub fn property_step(
             tested: asked.joined(q.tested),
         },
         PropertyOp::Implies(_, _) => Told {
-            holds: implies_of(x, n, 0, second),
-            tested: starts_into(x, 0, n, q.tested),
+            holds: implies_of(x, span, 0, second),
+            tested: starts_into(x, 0, span, q.tested),
         },
-        PropertyOp::Next(_) => next_step(p, clock, n),
-        PropertyOp::Until(_, _) => until_step(p, q, clock, n),
-        PropertyOp::Ticked(_, _) => q,
-        PropertyOp::Defined(_) => q,
+        PropertyOp::Next(_) => next_step(p, clock, span),
+        PropertyOp::Until(_, _) => until_step(p, q, clock, span),
+        PropertyOp::Ticked(_, _) | PropertyOp::Defined(_) => q,
     }
 }

@@ -9,3 +9,4 @@ pub mod Topping
 pub mod Within
 pub mod CheckingTo
 pub mod Checking
+pub mod Answering

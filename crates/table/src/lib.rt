@@ -2,60 +2,69 @@
 // and that the tests say what the page says, is stated and proved here.
 #![tactic(auto)]
 
-ghost use Rattle.std.specs.Prelude.{◌≡◌, ◌+◌, ◌*◌, ◌≤◌, length};
+ghost use Rattle.std.specs.Prelude.{◌≡◌, ◌&&◌, ◌+◌, ◌*◌, ◌≤◌, leb, length, IfOk};
+ghost use Rattle.refusal.specs.Heading.{count};
 ghost use Rattle.refusal.specs.Computed.{first_case};
+ghost use Rattle.refusal.specs.Reasons.{verdict_by};
 ghost use Rattle.table.specs.Check.{Checks, ChecksTo};
 ghost use Rattle.table.specs.Computed.{node_cases};
 
 use faults::formed::first_unfit;
 use faults::placed::first_astray;
 use hollows::first_hollow;
-use nodes::operators::{BASE, BOOLEAN};
+use nodes::operators::{BASE, Sort};
 use nodes::sort_at;
-use refusal::{Verdict, wide};
+use refusal::{Reason, Verdict, heading};
 
 // Refusals 6 to 9 of the n nodes.
-fn check_nodes(b: &[u8], n: usize) -> Verdict
+fn check_nodes(b: &[u8], n: usize) -> Result<(), Reason>
     requires { (1 ≤ n) × (n ≤ 120) × (4 * n + 6 ≤ length b.now) }
-    ensures { result ≡ first_case (node_cases b.now n) }
+    ensures { verdict_by result ≡ first_case (node_cases b.now n) }
 {
-    let u = first_unfit(b, n);
-    if u < n {
-        return Verdict { number: 6, node: u };
+    if let Some(k) = first_unfit(b, n) {
+        return Err(Reason::NotWellFormed(k));
     }
-    let a = first_astray(b, n);
-    if a < n {
-        return Verdict { number: 7, node: a };
+    if let Some(k) = first_astray(b, n) {
+        return Err(Reason::Astray(k));
     }
-    if sort_at(b, n - 1) == BOOLEAN {
-        return Verdict { number: 8, node: 0 };
+    if sort_at(b, n - 1) == Some(Sort::Boolean) {
+        return Err(Reason::BooleanRoot);
     }
-    let h = first_hollow(b, n);
-    if h < n {
-        return Verdict { number: 9, node: h };
+    if let Some(k) = first_hollow(b, n) {
+        return Err(Reason::Hollow(k));
     }
-    Verdict { number: 0, node: 0 }
+    Ok(())
 }
 
-// For any bytes: the number and the node of the first refusal of 1 to 9 that applies, and 0 and 0 where none does. The versions are 1 to the newest.
+// Whether a table may have so many nodes.
+fn is_count(n: usize) -> bool
+    ensures { result ≡ (leb 1 n && leb n 120) }
+{
+    (1..=120).contains(&n)
+}
+
+// For any bytes: the first reason of refusals 1 to 9 that applies, and where none does the count of the nodes. The versions are 1 to the newest.
+pub fn checked(b: &[u8], newest: usize) -> Result<usize, Reason>
+    ensures verdict { ChecksTo newest b.now (verdict_by result) }
+    ensures count { IfOk result (λ n. n ≡ count b.now) }
+{
+    heading(b, b'T', newest)?;
+    let n = usize::from(b[5]);
+    if !is_count(n) {
+        return Err(Reason::WrongCount);
+    }
+    if b.len() != 4 * n + 6 {
+        return Err(Reason::WrongLength);
+    }
+    check_nodes(b, n)?;
+    Ok(n)
+}
+
+// The number and the node of the first refusal of 1 to 9 that applies, and 0 and 0 where none does.
 pub fn check_to(b: &[u8], newest: usize) -> Verdict
     ensures { ChecksTo newest b.now result }
 {
-    let heading = refusal::heading(b, 84, newest);
-    if heading.number != 0 {
-        return heading;
-    }
-    let n = wide(b[5]);
-    if n == 0 {
-        return Verdict { number: 4, node: 0 };
-    }
-    if 120 < n {
-        return Verdict { number: 4, node: 0 };
-    }
-    if b.len() != 4 * n + 6 {
-        return Verdict { number: 5, node: 0 };
-    }
-    check_nodes(b, n)
+    Verdict::of(checked(b, newest))
 }
 
 // Of a table with base operators alone, as the engines read it.

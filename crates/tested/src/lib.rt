@@ -1,74 +1,69 @@
 // Whether a record tests the property at the root of a clocked table: one set of positions a node, upwards, from the rows of the rewritten table.
 #![tactic(auto)]
 
-ghost use Rattle.std.specs.Prelude.{◌≡◌, ◌≤◌, length, get_or};
+ghost use Rattle.std.specs.Prelude.{◌≡◌, length, get_or};
 ghost use Rattle.positions.specs.Member.{has, Is};
-ghost use Rattle.refusal.specs.Heading.{count};
 ghost use Rattle.nodes.specs.Operators.{node_of};
 ghost use Rattle.nodes.specs.Computed.{named_by};
-ghost use Rattle.cells.specs.Shares.{longest, HasRow};
-ghost use Rattle.tested.specs.Computed.{is_tick, next_tested, until_tested, implies_tested, property_tested, letter_matches, node_tested, standing, set_of, clock_there, sequence_there, property_there, node_there, tested_in, Testing};
+ghost use Rattle.cells.specs.Shares.{HasRow};
+ghost use Rattle.tested.specs.Computed.{is_tick, next_tested, until_tested, implies_tested, property_tested, letter_matches, node_tested, clock_row, standing, set_of, clock_there, sequence_there, property_there, node_there, tested_in, Testing};
 
-use cells::{all_samples, starts_into, word_at};
-use clocks::UNCLOCKED;
-use nodes::{Node, PropertyOp, Raw, SequenceOp, decode, named, node_at};
+use cells::{Span, all_samples, starts_into, word_at};
+use nodes::{Node, PropertyOp, Raw, SLOTS, SequenceOp, named, node_at};
 use positions::PositionSet;
-use refusal::wide;
 use ticking::{second_tick, tick_run};
 
-// The positions at which a property under the clock looks: the ticks, where row c has the condition, and with no clock all samples.
-fn ticks_of(rows: &[u64], n: usize, clock: u8, c: usize) -> PositionSet
-    requires { clock_there (length rows.now) clock c × (n ≤ longest) }
-    ensures { Is result.bits (is_tick rows.now n clock c) }
+// The positions at which a property looks: the ticks of its clock, where row c has the condition, and with no clock all samples.
+fn ticks_of(rows: &[u64], span: Span, clock: Option<usize>) -> PositionSet
+    requires { clock_there (length rows.now) clock }
+    ensures { Is result.bits (is_tick rows.now span.n clock) }
 {
-    if clock == UNCLOCKED {
-        return all_samples(n);
+    match clock {
+        None => all_samples(span),
+        Some(c) => word_at(rows, c, 0),
     }
-    word_at(rows, c, 0)
 }
 
 // Of nexttime P: P is tested one position on; under a clock at the second tick.
-fn next_set(rows: &[u64], n: usize, clock: u8, c: usize, p: PositionSet) -> PositionSet
-    requires { clock_there (length rows.now) clock c × (n ≤ longest) }
-    ensures { Is result.bits (next_tested rows.now n clock c (has p.bits)) }
+fn next_set(rows: &[u64], span: Span, clock: Option<usize>, p: PositionSet) -> PositionSet
+    requires { clock_there (length rows.now) clock }
+    ensures { Is result.bits (next_tested rows.now span.n clock (has p.bits)) }
 {
-    if clock == UNCLOCKED {
-        return p.down();
+    match clock {
+        None => p.down(),
+        Some(c) => second_tick(word_at(rows, c, 0), span, false, p),
     }
-    let ticks = ticks_of(rows, n, clock, c);
-    second_tick(ticks, n, false, p)
 }
 
 // Of P until Q, of rows a and b: at a tick one of the two is tested, and at each earlier one P holds and Q does not.
 fn until_set(
     rows: &[u64],
-    n: usize,
+    span: Span,
     ticks: PositionSet,
     a: usize,
     b: usize,
     either: PositionSet,
 ) -> PositionSet
-    requires { HasRow (length rows.now) a × HasRow (length rows.now) b × (n ≤ longest) }
-    ensures { Is result.bits (until_tested rows.now n (has ticks.bits) a b (has either.bits)) }
+    requires { HasRow (length rows.now) a × HasRow (length rows.now) b }
+    ensures { Is result.bits (until_tested rows.now span.n (has ticks.bits) a b (has either.bits)) }
 {
     let holds = word_at(rows, a, 0).without(word_at(rows, b, 0));
-    tick_run(ticks, n, false, holds, either)
+    tick_run(ticks, span, false, holds, either)
 }
 
 // Of R |-> P: some match of R, not empty, has its last letter where P is tested. A letter with no clock has the samples that it matches in its own set.
-fn implies_set(rows: &[u64], n: usize, a: usize, r: PositionSet, p: PositionSet) -> PositionSet
-    requires { HasRow (length rows.now) a × (n ≤ longest) }
-    ensures { Is result.bits (implies_tested rows.now n a (has r.bits) (has p.bits)) }
+fn implies_set(rows: &[u64], span: Span, a: usize, r: PositionSet, p: PositionSet) -> PositionSet
+    requires { HasRow (length rows.now) a }
+    ensures { Is result.bits (implies_tested rows.now span.n a (has r.bits) (has p.bits)) }
 {
     if r.is_empty() {
-        return starts_into(rows, a, n, p);
+        return starts_into(rows, a, span, p);
     }
     r.common(p)
 }
 
 // The set of the node that a byte names.
-fn set_for(sets: &[u64], v: u8) -> PositionSet
-    requires { length sets.now ≡ 121 }
+fn set_for(sets: &[u64; SLOTS], v: u8) -> PositionSet
     ensures { result.bits ≡ get_or sets.now (named_by v) 0 }
 {
     PositionSet {
@@ -77,70 +72,78 @@ fn set_for(sets: &[u64], v: u8) -> PositionSet
 }
 
 // The row that stands for the node that a byte names.
-fn row_for(numbers: &[u8], v: u8) -> usize
-    requires { length numbers.now ≡ 121 }
+fn row_for(numbers: &[u8; SLOTS], v: u8) -> usize
     ensures { result ≡ get_or numbers.now (named_by v) 0 }
 {
-    wide(numbers[named(v)])
+    usize::from(numbers[named(v)])
+}
+
+// The row that stands for a clock's condition.
+fn clock_row(numbers: &[u8; SLOTS], clock: Option<u8>) -> Option<usize>
+    ensures { result ≡ clock_row numbers.now clock }
+{
+    clock.map(|c| row_for(numbers, c))
 }
 
 // The positions from which a property is tested: the node v under the clock, from the sets below it.
 fn property_set(
     rows: &[u64],
-    n: usize,
-    numbers: &[u8],
-    sets: &[u64],
-    clock: u8,
+    span: Span,
+    numbers: &[u8; SLOTS],
+    sets: &[u64; SLOTS],
+    clock: Option<u8>,
     v: Raw,
     op: PropertyOp,
 ) -> PositionSet
-    requires property_there { property_there (length rows.now) (standing numbers.now clock v) op × (n ≤ longest) }
-    requires lengths { (length numbers.now ≡ 121) × (length sets.now ≡ 121) }
-    ensures { Is result.bits (property_tested rows.now n (standing numbers.now clock v) (set_of sets.now v.x) (set_of sets.now v.y) op) }
+    requires { property_there (length rows.now) (standing numbers.now clock v) op }
+    ensures { Is result.bits (property_tested rows.now span.n (standing numbers.now clock v) (set_of sets.now v.x) (set_of sets.now v.y) op) }
 {
-    let x = v.x;
-    let y = v.y;
     match op {
-        PropertyOp::Strong(_) => PositionSet::full(n),
-        PropertyOp::Weak(_) => PositionSet::full(n),
-        PropertyOp::Negated(_) => set_for(sets, x),
-        PropertyOp::AnyOf(_, _) => set_for(sets, x).joined(set_for(sets, y)),
-        PropertyOp::BothOf(_, _) => set_for(sets, x).joined(set_for(sets, y)),
+        PropertyOp::Strong(_) => PositionSet::full(span.n),
+        PropertyOp::Weak(_) => PositionSet::full(span.n),
+        PropertyOp::Negated(_) => set_for(sets, v.x),
+        PropertyOp::AnyOf(_, _) => set_for(sets, v.x).joined(set_for(sets, v.y)),
+        PropertyOp::BothOf(_, _) => set_for(sets, v.x).joined(set_for(sets, v.y)),
         PropertyOp::Implies(_, _) => implies_set(
             rows,
-            n,
-            row_for(numbers, x),
-            set_for(sets, x),
-            set_for(sets, y),
+            span,
+            row_for(numbers, v.x),
+            set_for(sets, v.x),
+            set_for(sets, v.y),
         ),
-        PropertyOp::Next(_) => next_set(rows, n, clock, row_for(numbers, clock), set_for(sets, x)),
+        PropertyOp::Next(_) => next_set(rows, span, clock_row(numbers, clock), set_for(sets, v.x)),
         PropertyOp::Until(_, _) => {
-            let ticks = ticks_of(rows, n, clock, row_for(numbers, clock));
-            let either = set_for(sets, x).joined(set_for(sets, y));
+            let ticks = ticks_of(rows, span, clock_row(numbers, clock));
+            let either = set_for(sets, v.x).joined(set_for(sets, v.y));
             until_set(
                 rows,
-                n,
+                span,
                 ticks,
-                row_for(numbers, x),
-                row_for(numbers, y),
+                row_for(numbers, v.x),
+                row_for(numbers, v.y),
                 either,
             )
         }
-        PropertyOp::Ticked(_, _) => set_for(sets, y),
+        PropertyOp::Ticked(_, _) => set_for(sets, v.y),
         // A derived operator is expanded before: no table here has one.
         PropertyOp::Defined(_) => PositionSet::empty(),
     }
 }
 
 // The samples that a letter with no clock matches, so that `|->` over it is one meeting of two sets; of any other sequence none.
-fn letter_set(rows: &[u64], numbers: &[u8], clock: u8, v: Raw, op: SequenceOp) -> PositionSet
-    requires { sequence_there (length rows.now) (standing numbers.now clock v) op × (length numbers.now ≡ 121) }
+fn letter_set(
+    rows: &[u64],
+    numbers: &[u8; SLOTS],
+    clock: Option<u8>,
+    v: Raw,
+    op: SequenceOp,
+) -> PositionSet
+    requires { sequence_there (length rows.now) (standing numbers.now clock v) op }
     ensures { Is result.bits (letter_matches rows.now (standing numbers.now clock v) op) }
 {
     match op {
         SequenceOp::Letter(_) => {
-            let free = clock == UNCLOCKED;
-            word_at(rows, row_for(numbers, v.x), 0).only_if(free)
+            word_at(rows, row_for(numbers, v.x), 0).only_if(clock.is_none())
         }
         SequenceOp::Then(_, _) => PositionSet::empty(),
         SequenceOp::Fused(_, _) => PositionSet::empty(),
@@ -153,30 +156,40 @@ fn letter_set(rows: &[u64], numbers: &[u8], clock: u8, v: Raw, op: SequenceOp) -
 }
 
 // The set of the node v; a boolean has none.
-fn node_set(rows: &[u64], n: usize, numbers: &[u8], sets: &[u64], clock: u8, v: Raw) -> PositionSet
-    requires node_there { node_there (length rows.now) (standing numbers.now clock v) (node_of v) × (n ≤ longest) }
-    requires lengths { (length numbers.now ≡ 121) × (length sets.now ≡ 121) }
-    ensures { Is result.bits (node_tested rows.now n (standing numbers.now clock v) (set_of sets.now v.x) (set_of sets.now v.y) (node_of v)) }
+fn node_set(
+    rows: &[u64],
+    span: Span,
+    numbers: &[u8; SLOTS],
+    sets: &[u64; SLOTS],
+    clock: Option<u8>,
+    v: Raw,
+) -> PositionSet
+    requires { node_there (length rows.now) (standing numbers.now clock v) (node_of v) }
+    ensures { Is result.bits (node_tested rows.now span.n (standing numbers.now clock v) (set_of sets.now v.x) (set_of sets.now v.y) (node_of v)) }
 {
-    let node = decode(v);
-    match node {
+    match Node::from(v) {
         Node::Boolean(_) => PositionSet::empty(),
         Node::Sequence(op) => letter_set(rows, numbers, clock, v, op),
-        Node::Property(op) => property_set(rows, n, numbers, sets, clock, v, op),
+        Node::Property(op) => property_set(rows, span, numbers, sets, clock, v, op),
     }
 }
 
-// Whether the root of the m nodes is tested from position 0.
-pub fn tested(b: &[u8], m: usize, clocks: &[u8], numbers: &[u8], rows: &[u64], n: usize) -> bool
-    requires { Testing b.now clocks.now numbers.now rows.now n × (m ≡ count b.now) }
-    ensures { result ≡ tested_in b.now clocks.now numbers.now rows.now n }
+// Whether the root is tested from position 0.
+pub fn tested(
+    b: &[u8],
+    clocks: &[Option<u8>; SLOTS],
+    numbers: &[u8; SLOTS],
+    rows: &[u64],
+    span: Span,
+) -> bool
+    requires { Testing b.now clocks.now numbers.now rows.now span.n }
+    ensures { result ≡ tested_in b.now clocks.now numbers.now rows.now span.n }
 {
-    let mut sets = [0; 121];
-    let mut k: usize = 0;
-    while k < m {
-        let set = node_set(rows, n, numbers, &sets, clocks[k], node_at(b, k));
+    let m = usize::from(b[5]);
+    let mut sets = [0; SLOTS];
+    for k in 0..m {
+        let set = node_set(rows, span, numbers, &sets, clocks[k], node_at(b, k));
         sets[k] = set.bits;
-        k += 1;
     }
     let root = PositionSet { bits: sets[m - 1] };
     root.has(0)

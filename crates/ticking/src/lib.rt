@@ -3,12 +3,11 @@
 
 pub mod letters;
 
-ghost use Rattle.std.specs.Prelude.{◌≤◌};
 ghost use Rattle.positions.specs.Member.{has, Is};
-ghost use Rattle.cells.specs.Shares.{longest};
 ghost use Rattle.properties.specs.Shapes.{told, Sets};
 ghost use Rattle.ticking.specs.Ticks.{second_bit, ticked_until, tick_run, first_tick, second_tick};
 
+use cells::Span;
 use positions::PositionSet;
 use properties::Suffixes;
 use properties::untils::begun;
@@ -24,59 +23,55 @@ pub struct Ticks {
 // From each position on, `holds` at each tick up to one that is in the set; `last` where no such tick is left.
 pub fn tick_run(
     ticks: PositionSet,
-    n: usize,
+    span: Span,
     last: bool,
     holds: PositionSet,
     set: PositionSet,
 ) -> PositionSet
-    requires { n ≤ longest }
-    ensures { Is result.bits (tick_run (has ticks.bits) n last (has holds.bits) (has set.bits)) }
+    ensures { Is result.bits (tick_run (has ticks.bits) span.n last (has holds.bits) (has set.bits)) }
 {
-    let before = holds.joined(ticks.others(n));
-    lead(begun(before, set.common(ticks), last, n))
+    let before = holds.joined(ticks.others(span.n));
+    lead(begun(before, set.common(ticks), last, span))
 }
 
 // The positions from which the first tick, at the position itself or later, is in the set.
-fn first_tick(ticks: PositionSet, n: usize, last: bool, set: PositionSet) -> PositionSet
-    requires { n ≤ longest }
-    ensures { Is result.bits (first_tick (has ticks.bits) n last (has set.bits)) }
+fn first_tick(ticks: PositionSet, span: Span, last: bool, set: PositionSet) -> PositionSet
+    ensures { Is result.bits (first_tick (has ticks.bits) span.n last (has set.bits)) }
 {
-    tick_run(ticks, n, last, PositionSet::empty(), set)
+    tick_run(ticks, span, last, PositionSet::empty(), set)
 }
 
 // The same of the second tick.
-pub fn second_tick(ticks: PositionSet, n: usize, last: bool, set: PositionSet) -> PositionSet
-    requires { n ≤ longest }
-    ensures { Is result.bits (second_tick (has ticks.bits) n last (has set.bits)) }
+pub fn second_tick(ticks: PositionSet, span: Span, last: bool, set: PositionSet) -> PositionSet
+    ensures { Is result.bits (second_tick (has ticks.bits) span.n last (has set.bits)) }
 {
-    let later = first_tick(ticks, n, last, set).down();
-    first_tick(ticks, n, last, later)
+    let later = first_tick(ticks, span, last, set).down();
+    first_tick(ticks, span, last, later)
 }
 
 // nexttime under a clock: with no further tick it is yes with no tail or a ⊤ tail, and no with a ⊥ tail.
-pub fn next_under(ticks: PositionSet, n: usize, p: Suffixes) -> Suffixes
-    requires { n ≤ longest }
-    ensures { Sets (second_bit (has ticks.bits) n (told p)) result }
+pub fn next_under(ticks: PositionSet, span: Span, p: Suffixes) -> Suffixes
+    ensures { Sets (second_bit (has ticks.bits) span.n (told p)) result }
 {
     Suffixes {
-        neutral: second_tick(ticks, n, true, p.neutral),
-        weak: second_tick(ticks, n, true, p.weak),
-        strong: second_tick(ticks, n, false, p.strong),
+        neutral: second_tick(ticks, span, true, p.neutral),
+        weak: second_tick(ticks, span, true, p.weak),
+        strong: second_tick(ticks, span, false, p.strong),
     }
 }
 
 // P until Q. In a ⊤ tail a clock asks nothing, and in a ⊥ tail it counts nothing.
-pub fn until_under(clock: Ticks, n: usize, p: Suffixes, q: Suffixes) -> Suffixes
-    requires { n ≤ longest }
-    ensures { Sets (ticked_until clock.clocked (has clock.at.bits) n (told p) (told q)) result }
+pub fn until_under(clock: Ticks, span: Span, p: Suffixes, q: Suffixes) -> Suffixes
+    ensures { Sets (ticked_until clock.clocked (has clock.at.bits) span.n (told p) (told q)) result }
 {
+    let n = span.n;
     let ticks = clock.at;
     let clocked = clock.clocked;
     let weak_last = (p.weak.has(n) | q.weak.has(n)) | clocked;
     let strong_last = p.strong.has(n) | (q.strong.has(n) & !clocked);
     Suffixes {
-        neutral: tick_run(ticks, n, true, p.neutral, q.neutral),
-        weak: tick_run(ticks, n, weak_last, p.weak, q.weak),
-        strong: tick_run(ticks, n, strong_last, p.strong, q.strong),
+        neutral: tick_run(ticks, span, true, p.neutral, q.neutral),
+        weak: tick_run(ticks, span, weak_last, p.weak, q.weak),
+        strong: tick_run(ticks, span, strong_last, p.strong, q.strong),
     }
 }

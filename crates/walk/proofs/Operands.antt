@@ -11,12 +11,9 @@ use lib.Dec.{leb, leb→le}
 use borrow.Author.Tests.{lt-leb}
 use lib.ListN.{length}
 use Rattle.refusal.specs.Heading.{count}
-use Rattle.nodes.specs.declared.operators.Row.{Row}
+use Rattle.nodes.specs.Operators.{Row}
 use Rattle.nodes.specs.declared.Raw.{Raw}
 use Rattle.nodes.specs.declared.Node.{Node}
-use Rattle.nodes.specs.declared.Node.TheVariants.{Sequence, Property}
-use Rattle.nodes.specs.declared.SequenceOp.{SequenceOp}
-use Rattle.nodes.specs.declared.PropertyOp.{PropertyOp}
 use Rattle.nodes.specs.Operators.{none, sequence, operators, Decodes, bytes_of}
 use Rattle.nodes.specs.Nodes.{raw_at, row_at, sort_at, WellFormed}
 use Rattle.nodes.proofs.Lookup.{row_passes}
@@ -61,17 +58,11 @@ module _ (s xs sets : List ℕ) (known : Known s xs sets) (k : ℕ) (inside : k 
         subst Low (sym ev) (low (omega arith))
 
     -- a is the number that the first byte has, b the second
-    pub sequence_x : (op : SequenceOp) → node ≡ Sequence op → (a : ℕ) → a ≡ v.x → a < k
-    sequence_x op e a ea = let l = (low_of e (omega arith)).x in omega arith
+    pub first_below : {kind : Node} → node ≡ kind → sequence ≤ sort_of kind → (a : ℕ) → a ≡ v.x → a < k
+    first_below e h a ea = let l = (low_of e h).x in omega arith
 
-    pub sequence_y : (op : SequenceOp) → node ≡ Sequence op → (b : ℕ) → b ≡ v.y → b < k
-    sequence_y op e b eb = let l = (low_of e (omega arith)).y in omega arith
-
-    pub property_x : (op : PropertyOp) → node ≡ Property op → (a : ℕ) → a ≡ v.x → a < k
-    property_x op e a ea = let l = (low_of e (omega arith)).x in omega arith
-
-    pub property_y : (op : PropertyOp) → node ≡ Property op → (b : ℕ) → b ≡ v.y → b < k
-    property_y op e b eb = let l = (low_of e (omega arith)).y in omega arith
+    pub second_below : {kind : Node} → node ≡ kind → sequence ≤ sort_of kind → (b : ℕ) → b ≡ v.y → b < k
+    second_below e h b eb = let l = (low_of e h).y in omega arith
 
 -- a node below k has a set
 pub set_there : (s xs sets : List ℕ) → Known s xs sets → (k : ℕ) → k < count s → (a : ℕ) → a < k → a < length sets

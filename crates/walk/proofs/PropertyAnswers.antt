@@ -1,5 +1,5 @@
 -- What a property node answers, by what its operands answer, is so of its tree: one case an operator. Assumes nothing.
-use mathlib.Core.Path.{◌≡◌, sym, ap, subst, ◌∙◌}
+use mathlib.Core.Path.{◌≡◌, sym, ap, subst, ◌∙◌, refl}
 use mathlib.Core.Bool.{Bool}
 use mathlib.Core.List.{List}
 use Prim.Native.Nat.{ℕ, ◌<◌, ◌≤◌}
@@ -14,8 +14,6 @@ use Rattle.meaning.proofs.Pairing.{length_pairs}
 use Rattle.nodes.specs.declared.Raw.{Raw}
 use Rattle.nodes.specs.declared.Node.{Node}
 use Rattle.nodes.specs.declared.Node.TheVariants.{Boolean, Sequence, Property}
-use Rattle.nodes.specs.declared.BooleanOp.{BooleanOp}
-use Rattle.nodes.specs.declared.SequenceOp.{SequenceOp}
 use Rattle.nodes.specs.declared.PropertyOp.{PropertyOp}
 use Rattle.nodes.specs.declared.PropertyOp.TheVariants.{Strong, Weak, Negated, AnyOf, BothOf, Implies, Next, Until, Ticked, Defined}
 use Rattle.nodes.specs.Operators.{Decodes, bytes_of, property_bytes}
@@ -125,11 +123,14 @@ module _ (s xs sets : List ℕ) (known : Known s xs sets) (k : ℕ) (inside : k 
         let read : (P : Prop Atom) → PropertyAt (node_at s) k P → ReadP (node_at s) kind P = λ P d. subst (λ v. ReadP (node_at s) v P) (read_as s k v node ev dec e) (read_p d) in
         record { says = λ P d κ ht. (f P (read P d) κ ht).says; tested = λ P d κ ht. (f P (read P d) κ ht).tested }
 
-    pub told_boolean : (o : BooleanOp) → node ≡ Boolean o → (r : Told) → PropertyMeans s xs clock k r
-    told_boolean o e r = means_by e r (λ P z κ ht. absurd z)
-
-    pub told-sequence : (o : SequenceOp) → node ≡ Sequence o → (r : Told) → PropertyMeans s xs clock k r
-    told-sequence o e r = means_by e r (λ P z κ ht. absurd z)
+    -- a node that is no property stands for none
+    pub told_other : ((op : PropertyOp) → ¬ (node ≡ Property op)) → (r : Told) → PropertyMeans s xs clock k r
+    told_other f r = by_sort node refl
+      where
+        by_sort : (kind : Node) → node ≡ kind → PropertyMeans s xs clock k r
+        by_sort (Boolean o) e = means_by e r (λ P z κ ht. absurd z)
+        by_sort (Sequence o) e = means_by e r (λ P z κ ht. absurd z)
+        by_sort (Property o) e = absurd (f o e)
 
     pub told-property : (op : PropertyOp) → node ≡ Property op → (a b : ℕ) → a ≡ v.x → b ≡ v.y → (c : PositionSet) → c.bits ≡ get_or sets a 0
         → (below : Ticks) → below ≡ property_clock op c clock → (x : List ℕ) (p q r : Told) → SequenceMeans s xs below a x → PropertyMeans s xs below a p → PropertyMeans s xs below b q

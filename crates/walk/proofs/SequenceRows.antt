@@ -13,10 +13,8 @@ use Rattle.meaning.proofs.Pairing.{length_pairs}
 use Rattle.nodes.specs.declared.Raw.{Raw}
 use Rattle.nodes.specs.declared.Node.{Node}
 use Rattle.nodes.specs.declared.Node.TheVariants.{Boolean, Sequence, Property}
-use Rattle.nodes.specs.declared.BooleanOp.{BooleanOp}
 use Rattle.nodes.specs.declared.SequenceOp.{SequenceOp}
 use Rattle.nodes.specs.declared.SequenceOp.TheVariants.{Letter, Then, Fused, Either, Empty, Repeat, Clocked, Derived}
-use Rattle.nodes.specs.declared.PropertyOp.{PropertyOp}
 use Rattle.nodes.specs.Operators.{Decodes, bytes_of, sequence_bytes}
 use Rattle.nodes.specs.Nodes.{raw_at, node_at, WellFormed}
 use Rattle.nodes.proofs.Coded.{read_as}
@@ -121,11 +119,14 @@ module _ (s xs sets : List ℕ) (known : Known s xs sets) (k : ℕ) (inside : k 
         → ((r : Seq Atom) → ReadS (node_at s) kind r → (κ : Clock Atom) → Ticking xs κ clock → SequenceRow reading (pairs xs) κ (λ i. get_or out i 0) r) → SequenceMeans s xs clock k out
     means_by e out f = record { means = λ r d κ ht. f r (subst (λ v. ReadS (node_at s) v r) (read_as s k v node ev dec e) (read_s d)) κ ht }
 
-    pub of_boolean : (o : BooleanOp) → node ≡ Boolean o → (out : List ℕ) → SequenceMeans s xs clock k out
-    of_boolean o e out = means_by e out (λ r z κ ht. absurd z)
-
-    pub of_property : (o : PropertyOp) → node ≡ Property o → (out : List ℕ) → SequenceMeans s xs clock k out
-    of_property o e out = means_by e out (λ r z κ ht. absurd z)
+    -- a node that is no sequence stands for none
+    pub of_other : ((op : SequenceOp) → ¬ (node ≡ Sequence op)) → (out : List ℕ) → SequenceMeans s xs clock k out
+    of_other f out = by_sort node refl
+      where
+        by_sort : (kind : Node) → node ≡ kind → SequenceMeans s xs clock k out
+        by_sort (Boolean o) e = means_by e out (λ r z κ ht. absurd z)
+        by_sort (Sequence o) e = absurd (f o e)
+        by_sort (Property o) e = means_by e out (λ r z κ ht. absurd z)
 
     pub of_sequence : (op : SequenceOp) → node ≡ Sequence op → (a b : ℕ) → a ≡ v.x → b ≡ v.y → (c : PositionSet) → c.bits ≡ get_or sets a 0
         → (below : Ticks) → below ≡ sequence_clock op c clock → (x y out : List ℕ) → SequenceMeans s xs below a x → SequenceMeans s xs below b y

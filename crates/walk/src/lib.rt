@@ -7,11 +7,11 @@ ghost use Rattle.refusal.specs.Heading.{count};
 ghost use Rattle.steps.specs.Steps.{ToldBy};
 ghost use Rattle.walk.specs.Walk.{Known, SequenceMeans, PropertyMeans};
 
+use cells::Span;
 use conditions::set_at;
-use nodes::{Node, decode, node_at};
+use nodes::{Node, node_at};
 use positions::PositionSet;
 use properties::Suffixes;
-use refusal::wide;
 use steps::{Told, property_clock, property_step, sequence_clock, sequence_step};
 use ticking::Ticks;
 
@@ -19,14 +19,9 @@ use ticking::Ticks;
 fn nothing_told() -> Told
     ensures { ToldBy (λ t k. false) (λ k. false) result }
 {
-    let none = PositionSet::empty();
     Told {
-        holds: Suffixes {
-            neutral: none,
-            weak: none,
-            strong: none,
-        },
-        tested: none,
+        holds: Suffixes::none(),
+        tested: PositionSet::empty(),
     }
 }
 
@@ -42,19 +37,17 @@ pub fn sequence_row(
     ensures { SequenceMeans table.now samples.now clock k result }
 {
     let v = node_at(table, k);
-    let node = decode(v);
-    match node {
-        Node::Boolean(_) => [0; 65],
-        Node::Sequence(op) => {
-            let a = wide(v.x);
-            let c = set_at(booleans, a);
-            let below = sequence_clock(op, c, clock);
-            let x = sequence_row(table, samples, booleans, a, below);
-            let y = sequence_row(table, samples, booleans, wide(v.y), below);
-            sequence_step(&x, &y, c, clock.at, op, samples.len())
-        }
-        Node::Property(_) => [0; 65],
-    }
+    let Node::Sequence(op) = Node::from(v) else {
+        return [0; 65];
+    };
+    let a = usize::from(v.x);
+    let b = usize::from(v.y);
+    let c = set_at(booleans, a);
+    let below = sequence_clock(op, c, clock);
+    let x = sequence_row(table, samples, booleans, a, below);
+    let y = sequence_row(table, samples, booleans, b, below);
+    let span = Span { n: samples.len() };
+    sequence_step(&x, &y, c, clock.at, op, span)
 }
 
 // What a property node answers under a clock.
@@ -63,17 +56,15 @@ pub fn property_row(table: &[u8], samples: &[u64], booleans: &[u64], k: usize, c
     ensures { PropertyMeans table.now samples.now clock k result }
 {
     let v = node_at(table, k);
-    let node = decode(v);
-    match node {
-        Node::Boolean(_) => nothing_told(),
-        Node::Sequence(_) => nothing_told(),
-        Node::Property(op) => {
-            let a = wide(v.x);
-            let below = property_clock(op, set_at(booleans, a), clock);
-            let x = sequence_row(table, samples, booleans, a, below);
-            let p = property_row(table, samples, booleans, a, below);
-            let q = property_row(table, samples, booleans, wide(v.y), below);
-            property_step(&x, p, q, op, clock, samples.len())
-        }
-    }
+    let Node::Property(op) = Node::from(v) else {
+        return nothing_told();
+    };
+    let a = usize::from(v.x);
+    let b = usize::from(v.y);
+    let below = property_clock(op, set_at(booleans, a), clock);
+    let x = sequence_row(table, samples, booleans, a, below);
+    let p = property_row(table, samples, booleans, a, below);
+    let q = property_row(table, samples, booleans, b, below);
+    let span = Span { n: samples.len() };
+    property_step(&x, p, q, op, clock, span)
 }

@@ -11,7 +11,7 @@ use lib.Dec.{leb}
 use lib.ListN.{length, length-append}
 use Rattle.telling.proofs.Telling.{is_or, is_test, is_le, failed}
 use Rattle.refusal.specs.Heading.{count}
-use Rattle.nodes.specs.declared.operators.Row.{Row}
+use Rattle.nodes.specs.Operators.{Row}
 use Rattle.nodes.specs.declared.Raw.{Raw}
 use Rattle.nodes.specs.Operators.{none, Entry, operators, lookup, row_of}
 use Rattle.nodes.specs.Nodes.{raw_at, sort_at, WellFormed}

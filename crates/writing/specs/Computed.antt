@@ -1,11 +1,11 @@
 -- What the parts of the code ask of each other, and what each gives to a pass. Assumes nothing.
-use Rattle.std.specs.Prelude.{◌≡◌, Bool, true, false, cond, List, [], ℕ, ◌+◌, ◌*◌, ◌≤◌, length}
+use Rattle.std.specs.Prelude.{◌≡◌, Bool, true, false, List, ℕ, ◌+◌, ◌*◌, ◌≤◌, length, Option}
 use Rattle.refusal.specs.Heading.{count}
 use Rattle.nodes.specs.declared.Raw.{Raw}
 use Rattle.nodes.specs.NodeClock.{Ref}
 use Rattle.clocks.specs.Computed.{clock_by}
 use Rattle.numbers.specs.Numbers.{is_boolean, is_other, length_of, taken, start_of}
-use Rattle.writing.specs.Tables.{block_of, laid}
+use Rattle.writing.specs.Tables.{laid}
 
 -- ---- the two passes: of the booleans and of the others
 
@@ -26,20 +26,10 @@ TableFits m d = (m ≤ 120) × (4 * m + 6 ≤ length d)
 
 -- ---- of a table s with an array of clocks
 
-module _ (s clocks : List ℕ) where
-  -- what node k gives to a pass, and how many nodes that is; what all nodes below k give to it
-  abbrev pub given_by : Bool → ℕ → List Raw
-  given_by pass k = cond (of_pass s pass k) (block_of s (clock_by clocks) k) []
-
-  abbrev pub count_by : Bool → ℕ → ℕ
-  count_by pass k = cond (of_pass s pass k) (length_of s (clock_by clocks) k) 0
-
+module _ (s : List ℕ) (clocks : List (Option ℕ)) where
+  -- what all nodes below k give to a pass
   abbrev pub given_below : Bool → ℕ → List Raw
   given_below pass k = laid s (clock_by clocks) (of_pass s pass) k
-
-  -- a pass goes on at node `at`, where the nodes below k have had theirs
-  abbrev pub PassAt : Bool → ℕ → ℕ → Type 0
-  PassAt pass k at = at ≡ pass_start s (clock_by clocks) pass + taken s (clock_by clocks) (of_pass s pass) k
 
   -- the block of node k goes to node `at` on, and there is room for it in d
   abbrev pub BlockFits : ℕ → ℕ → List ℕ → Type 0

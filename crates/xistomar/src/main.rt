@@ -8,13 +8,11 @@ use input::take;
 
 // Where the input fails there is nothing to answer, and where the output fails nobody to tell: either way the program ends.
 fn main(rt: HostRuntime) {
-    let mut bytes = [0u8; line::ENOUGH];
-    let taken = take(&rt, &mut bytes);
-    let count = taken.count;
-    if !taken.good {
+    let mut bytes = [0; line::ENOUGH];
+    let Ok(count) = take(&rt, &mut bytes) else {
         return;
-    }
-    let mut line = [0u8; line::LONGEST_LINE];
+    };
+    let mut line = [0; line::LONGEST_LINE];
     let length = line::answer(&bytes[..count], &mut line);
     let _ = rt.write_all(&line[..length]);
 }

@@ -5,4 +5,4 @@ use Rattle.properties.proofs.suffixes_of.Goals as goal
 
 pub returns-in-Implies : goal.returns-in-Implies
 returns-in-Implies c =
-    rw c.in-Implies.is (by_row_lem (implies_bit c.args.rows.now c.args.n _) _ _ _ _ c.three_at-in-Implies.ensures c.implies_of.ensures)
+    rw c.in-Implies.is (by_row_lem (implies_bit c.args.rows.now c.args.span.n _) _ _ _ _ c.three_at-in-Implies.ensures c.implies_of.ensures)

@@ -6,7 +6,7 @@ use Rattle.rows.proofs.put_row.Goals as goal
 
 pub returns-in-Boolean : goal.returns-in-Boolean
 returns-in-Boolean c =
-    boolean_row_is _ _ _ _ _ _ _ _ _ c.in-Boolean.is (search rules) c.boolean_set-set.ensures c.empty-none.ensures c.empty-none.ensures c.put_three.ensures
+    boolean_row_is _ _ _ _ _ _ _ _ _ c.in-Boolean.is (search rules) c.boolean_set-set.ensures c.none.ensures.weak c.none.ensures.strong c.put_three.ensures
 
 pub returns-in-Sequence : goal.returns-in-Sequence
 unfolding node_row

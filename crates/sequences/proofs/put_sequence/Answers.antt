@@ -1,9 +1,7 @@
--- `sequences::put_sequence` meets its contract: the words up to n, then word 64, then 0 between. Assumes nothing.
+-- `sequences::put_sequence` meets its contract.
 use borrow.Author.Rules.{rules}
-use Rattle.sequences.proofs.Making.{stored_lent, all_made}
+use Rattle.sequences.proofs.Making.{row_in}
 use Rattle.sequences.proofs.put_sequence.Goals as goal
 
 pub returns : goal.returns
-returns c =
-    all_made (stored_lent c.requires.0 c.requires.2 c.put_words-tops.ensures.words) c.put_words-tops.ensures _ _ _ _ (search rules)
-    c.open_starts-open.ensures c.cut.ensures c.joined.ensures c.clear.ensures
+returns c = row_in _ _ _ _ _ _ _ (search rules) (search rules) c.put_own.ensures

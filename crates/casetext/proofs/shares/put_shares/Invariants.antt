@@ -1,9 +1,9 @@
--- `casetext::shares::put_shares`: each turn prints at least one word.
-use Rattle.std.proofs.Common.{◌-◌, ◌≤◌, length}
+-- `casetext::shares::put_shares`: no more words are kept than came.
+use Rattle.std.proofs.Common.{◌+◌, ◌≤◌, length}
 use Rattle.casetext.proofs.shares.put_shares.Given as goal
 
-abbrev pub invariant-loop-at : goal.invariant-loop-at
-invariant-loop-at g l = l.at ≤ length l.words
-
-abbrev pub decreases-loop-at : goal.decreases-loop-at
-decreases-loop-at g l = length l.words - l.at
+abbrev pub invariant-loop-share : goal.invariant-loop-share
+invariant-loop-share g l =
+    (goal.iterator-loop-share g).can_next l.share-iterator
+    × (goal.iterator-loop-share g).is_finite l.share-iterator
+    × (l.kept + length l.share-iterator.a.rest.now ≤ length l.words)

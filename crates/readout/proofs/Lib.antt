@@ -1,2 +1,0 @@
--- The level as it is read.
-pub mod Seeing
