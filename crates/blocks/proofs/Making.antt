@@ -3,7 +3,7 @@ use native.Mathlib.Omega.{arith}
 use borrow.Author.Tests.{ne_eqb}
 use mathlib.Core.Path.{◌≡◌, refl, ◌∙◌, sym}
 use mathlib.Core.List.{List, [], ◌∷◌, map}
-use Prim.Native.Nat.{ℕ, zero, suc, ◌<◌}
+use Prim.Native.Nat.{ℕ, zero, suc, ◌<◌, ◌≤◌}
 use lib.ListN.{length, get_or, get_or-map}
 use Rattle.nodes.specs.declared.Raw.{Raw}
 use Rattle.nodes.specs.declared.Node.{Node}
@@ -12,6 +12,15 @@ use Rattle.blocks.specs.Blocks.{letter_block, next_block, until_block, under_blo
 use Rattle.encoding.specs.Encoding.{blank, blank_node}
 
 -- ---- a block's node i
+
+-- i is none of the n numbers below n, as the last arm of a match has it
+abbrev pub NotBelow : ℕ → ℕ → Type 0
+NotBelow zero i = Unit {0}
+NotBelow (suc n) i = NotBelow n i × (i ≡ n → ⊥)
+
+pub not_below : (n i : ℕ) → NotBelow n i → n ≤ i
+not_below zero i h = omega arith
+not_below (suc n) i h = let l = not_below n i h.0 in let e = h.1 in omega arith
 
 of_bytes : (vs : List Node) (i : ℕ) → get_or (map bytes_of vs) i blank ≡ bytes_of (get_or vs i blank_node)
 of_bytes vs i = get_or-map bytes_of vs i blank_node

@@ -69,9 +69,9 @@ fn program(out: &Printer<impl Print>, label: &[u8], bytes: &[u8]) {
 
 // Reads a record into as many words as the text, a number and a label, begins with. They are printed whole, so that those left alone are seen.
 fn read(out: &Printer<impl Print>, text: &[u8], bytes: &[u8]) -> Result<(), NoCase> {
-    let (size, label) = text::opening(text)?;
+    let (size, label) = text::opening(text, WORDS)?;
     let mut space = [7; WORDS];
-    let words = space.get_mut(..size).ok_or(NoCase)?;
+    let words = &mut space[..size];
     let got = record::read(bytes, words);
     answers::record(out, label, got.verdict, got.count, words);
     Ok(())
@@ -85,7 +85,7 @@ fn write<F: FnOnce(&mut [u8]) -> (Verdict, usize)>(
 ) -> Result<(), NoCase>
     requires { F.IsAlwaysCallable fill }
 {
-    let (size, label) = text::opening(text)?;
+    let (size, label) = text::opening(text, OUTPUT)?;
     let mut space = [0; OUTPUT];
     let bytes = lend(&mut space, size)?;
     let (verdict, count) = fill(bytes);

@@ -40,7 +40,7 @@ fn run_judge(
     table: &[u8],
     samples: &[u64],
 ) -> Result<(), NoCase> {
-    let (size, label) = text::opening(text)?;
+    let (size, label) = text::opening(text, WORDS)?;
     let mut space = [0; WORDS];
     let words = lend(&mut space, size)?;
     let got = judge(table, samples, words);
@@ -59,8 +59,8 @@ fn run_ends(
     table: &[u8],
     samples: &[u64],
 ) -> Result<(), NoCase> {
-    let (start, text) = text::opening(text)?;
-    let (size, label) = text::opening(text)?;
+    let (start, text) = text::opening(text, usize::MAX)?;
+    let (size, label) = text::opening(text, WORDS)?;
     let mut space = [0; WORDS];
     let words = lend(&mut space, size)?;
     put_ends(out, label, match_ends(table, samples, start, words));

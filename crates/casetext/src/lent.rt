@@ -1,4 +1,6 @@
 // What is lent to an entry point is filled before the call, so that a place which was written or moved is seen.
+ghost use Rattle.std.specs.Prelude.{◌≡◌, ◌≤◌, length, IfOk};
+
 use crate::text::NoCase;
 
 pub trait Lent: Copy + PartialEq {
@@ -20,7 +22,9 @@ impl Lent for u64 {
 }
 
 // So many places at the start of the space, filled as they are lent.
-pub fn lend<T: Lent>(space: &mut [T], size: usize) -> Result<&mut [T], NoCase> {
+pub fn lend<T: Lent>(space: &mut [T], size: usize) -> Result<&mut [T], NoCase>
+    ensures { IfOk result (λ lent. (length lent.now ≡ size) × (size ≤ length space.old)) }
+{
     let lent = space.get_mut(..size).ok_or(NoCase)?;
     for (i, place) in lent.iter_mut().enumerate() {
         *place = T::before(i);

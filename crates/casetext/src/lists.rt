@@ -1,4 +1,6 @@
 // Lists of hexadecimal numbers, as the bytes and the samples of a case are written.
+ghost use Rattle.std.specs.Prelude.{◌≤◌, length, IfOk, IfSome};
+
 use crate::text::{Base, NoCase, numeral, split_once};
 use std::ops::RangeInclusive;
 
@@ -23,6 +25,7 @@ fn put_run<T: Copy + TryFrom<usize>>(
 ) -> Option<usize>
 where
     T::Error: Drop,
+    ensures { IfSome result (λ end. end ≤ length out.new) }
 {
     let (number, times) = run(text, digits)?;
     let value = T::try_from(number).ok()?;
@@ -41,6 +44,7 @@ pub fn numbers<'a, T: Copy + TryFrom<usize>>(
 ) -> Result<&'a [T], NoCase>
 where
     T::Error: Drop,
+    ensures { IfOk result (λ numbers. length numbers.now ≤ length out.old) }
 {
     let mut count = 0;
     for run in text

@@ -8,7 +8,7 @@ use Prim.Native.Nat.{ℕ, suc, ◌+◌, ◌*◌, ◌<◌, ◌≤◌}
 use lib.ListN.{length, get_or, take, drop, set, length-append, take-append-drop}
 use lib.Seq.{length-take-le, take_at, drop_at, drop-drop, take-suc, sets-eq}
 use Rattle.nodes.specs.declared.Raw.{Raw}
-use Rattle.encoding.specs.Encoding.{four_bytes, encoded, blank, put}
+use Rattle.encoding.specs.Encoding.{heading, four_bytes, encoded, blank, put}
 
 -- ---- bytes put into a list
 
@@ -52,6 +52,22 @@ put_four d i a b x y h =
     let q : i + 2 ≡ suc (suc i) = omega arith in
     let r : i + 3 ≡ suc (suc (suc i)) = omega arith in
     rw (p, q, r) (sets-eq (a ∷ b ∷ x ∷ y ∷ []) d i h)
+
+-- a copy, byte by byte
+pub put_byte : (d out : List ℕ) (i : ℕ) (xs : List ℕ) → out ≡ put d 0 (take i xs) → i < length xs → i < length d → length out ≡ length d
+    → set out i (get_or xs i 0) ≡ put d 0 (take (i + 1) xs)
+unfolding put
+put_byte d out i xs e l h same =
+    let a = get_or xs i 0 in
+    let long : length (take i xs) ≡ i = length-take-le i xs (omega arith) in
+    let at : i ≡ 0 + length (take i xs) = omega arith in
+    sets-eq (a ∷ []) out i (omega arith) ∙ ap (λ (u : List ℕ). put u i (a ∷ [])) e ∙ ap (λ (j : ℕ). put (put d 0 (take i xs)) j (a ∷ [])) at
+    ∙ put-put d 0 (take i xs) (a ∷ []) (omega arith) ∙ ap (put d 0) (sym (take-suc xs i 0 l) ∙ ap (λ (j : ℕ). take j xs) (sym (add-one i)))
+
+-- the stores of the heading
+pub put_six : (d : List ℕ) (a b m r : ℕ) → 6 ≤ length d → r ≡ m → set (set (set (set (set (set d 0 83) 1 86) 2 84) 3 a) 4 b) 5 r ≡ put d 0 (heading a b m)
+unfolding put
+put_six d a b m r h e = rw e (sets-eq (heading a b m) d 0 h)
 
 -- ---- bytes of nodes
 

@@ -7,7 +7,7 @@ ghost use Rattle.nodes.specs.Sorts.{operand_sort};
 ghost use Rattle.nodes.specs.Computed.{named_by};
 ghost use Rattle.encoding.specs.Encoding.{heading, four_bytes, put};
 
-use nodes::operators::Operand;
+use nodes::operators::{NO_SORT, Operand};
 use nodes::{Raw, SLOTS, named};
 
 // The bytes of the largest table: the heading and 120 nodes.
@@ -33,12 +33,20 @@ pub fn put_heading(out: &mut [u8], first: u8, second: u8, m: usize)
     out[..6].copy_from_slice(&[b'S', b'V', b'T', first, second, m as u8]);
 }
 
+// An operand byte of the sort, by its new number; any other byte as it is. The sort is a number, and any number will do.
+pub fn moved_byte(numbers: &[u8; SLOTS], sort: u8, v: u8) -> u8
+    ensures { result ≡ cond (eqb sort none) v (get_or numbers.now (named_by v) 0) }
+{
+    if sort == NO_SORT {
+        v
+    } else {
+        numbers[named(v)]
+    }
+}
+
 // An operand that is a node, by its new number; a plain byte as it is.
-pub fn moved_byte(numbers: &[u8; SLOTS], kind: Operand, v: u8) -> u8
+pub fn moved_operand(numbers: &[u8; SLOTS], kind: Operand, v: u8) -> u8
     ensures { result ≡ cond (eqb (operand_sort kind) none) v (get_or numbers.now (named_by v) 0) }
 {
-    match kind {
-        Operand::Below(_) => v,
-        Operand::Node(_) => numbers[named(v)],
-    }
+    moved_byte(numbers, kind.sort(), v)
 }

@@ -24,6 +24,7 @@ use Rattle.table.proofs.CheckingTo.{sound, checks_given, checks_none}
 use Rattle.encoding.specs.Encoding.{put}
 use Rattle.expansion.specs.Expansion.{base_table, expansion, expanded_count}
 use Rattle.expansion.proofs.Theorems.{length-table}
+use Rattle.expand.specs.declared.Expansion.{Expansion}
 use Rattle.expand.specs.Expands.{expand_refusals, Expands}
 use Rattle.expand.specs.Opens.{has_version3, expansion_by, open_refusals, Opens}
 use Rattle.refusal.proofs.Errors.{refused_by}
@@ -96,6 +97,18 @@ module _ (s : List ℕ) (derived : has_version3 s ≡ true) (e e' : List ℕ) wh
     pub new_copied : (d : List ℕ) → length (take (4 * m + 6) e') ≤ length d → (d' : List ℕ) → d' ≡ take (4 * m + 6) e' ++ drop (length (take (4 * m + 6) e')) d
         → Expands s d (expansion_by (Ok m)) d'
     new_copied d l = copied s d both few (take (4 * m + 6) e') expansion_is l m (h.count refl ∙ sym (counted s derived))
+
+-- too little room for what was opened, by the count that any answer without a refusal has
+pub too_small_lem : (s : List ℕ) → has_version3 s ≡ true → (e : List ℕ) (r : Expansion) (e' : List ℕ) → Opens s none e r e' → r.verdict.number ≡ 0
+    → (d : List ℕ) → length d < 4 * r.count + 6 → Expands s d (expansion_by (Err SmallOutput)) d
+unfolding open_refusals expansion
+too_small_lem s derived e r e' h z d l =
+    let n = (not_given-append (refusals_to newest s) (drop 9 (open_refusals s none)) (none_given (open_refusals s none) tt r.verdict z h.answer).0).0 in
+    let few : expanded_count s ≤ 120 = let a = counted s derived in let b = h.few z in omega arith in
+    let long : length (expansion s) ≡ length (base_table s) = rw (eq-eqb (version s) 3 (version_three s derived)) in
+    let c = h.count z in
+    let b = length-table s in
+    small s d n few (expansion s) refl (omega arith)
 
 -- ---- of an older table
 

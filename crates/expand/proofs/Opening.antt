@@ -1,6 +1,6 @@
 -- What opening a version 3 table answers, case by case. Assumes nothing.
 use native.Mathlib.Omega.{arith}
-use borrow.Author.Tests.{eqb-true, eqb-false, eq-eqb}
+use borrow.Author.Tests.{eqb-true, eq-eqb}
 use mathlib.Core.Path.{◌≡◌, refl, ◌∙◌, sym, ap}
 use mathlib.Core.Logic.{inl, inr, ⊎_elim}
 use mathlib.Core.Bool.{Bool, true, false, not, ◌&&◌, true≢false}
@@ -10,7 +10,7 @@ use lib.Dec.{eqb, ltb}
 use lib.ListN.{length, drop}
 use Rattle.telling.proofs.Telling.{side}
 use Rattle.std.specs.Prelude.{Option, Some, None, Err}
-use Rattle.std.specs.Option.{option_eq, ok_or}
+use Rattle.std.specs.Option.{ok_or}
 use Rattle.refusal.specs.declared.Reason.{Reason}
 use Rattle.refusal.specs.declared.Reason.TheVariants.{WrongRoot, ManyNodes}
 use Rattle.refusal.specs.Computed.{accepted}
@@ -19,13 +19,9 @@ use Rattle.refusal.specs.First.{Refusal, Answers, NotGiven}
 use Rattle.refusal.specs.Heading.{version, count}
 use Rattle.refusal.proofs.Errors.{refused_by}
 use Rattle.refusal.proofs.Given.{answers_stopped, answers_beyond}
-use Rattle.nodes.specs.declared.operators.Sort.{Sort}
-use Rattle.nodes.specs.contracts.operators.SortPartialEq.TheImpl.{eq-value}
-use Rattle.nodes.specs.Sorts.{sort_number}
 use Rattle.nodes.specs.Operators.{sequence, newest}
 use Rattle.nodes.specs.Nodes.{sort_at, root}
 use Rattle.nodes.proofs.Built.{Built}
-use Rattle.nodes.proofs.Sorting.{same_sort}
 use Rattle.table.specs.Check.{refusals_to, ChecksTo}
 use Rattle.table.proofs.CheckingTo.{sound, checks_given}
 use Rattle.expansion.specs.Expansion.{base_count, expanded_count}
@@ -68,11 +64,11 @@ module _ (s : List ℕ) (c : ChecksTo newest s accepted) (n : ℕ) (en : n ≡ c
 
 -- ---- the answers
 
-module _ (s : List ℕ) (derived : has_version3 s ≡ true) (wrong : Option Sort) (d : List ℕ) where
+module _ (s : List ℕ) (derived : has_version3 s ≡ true) (wrong : ℕ) (d : List ℕ) where
   abbrev later : List Refusal
-  later = drop 9 (open_refusals s (sort_number wrong))
+  later = drop 9 (open_refusals s wrong)
 
-  opens_refused : (e : Reason) (d' : List ℕ) → Answers (open_refusals s (sort_number wrong)) (verdict_of e) → Opens s (sort_number wrong) d (expansion_by (Err e)) d'
+  opens_refused : (e : Reason) (d' : List ℕ) → Answers (open_refusals s wrong) (verdict_of e) → Opens s wrong d (expansion_by (Err e)) d'
   opens_refused e d' a = record {
     answer = a;
     count = λ y. absurd (refused_by e y);
@@ -83,29 +79,28 @@ module _ (s : List ℕ) (derived : has_version3 s ≡ true) (wrong : Option Sort
   }
 
   -- refused by checking
-  pub stopped : (e : Reason) → ChecksTo newest s (verdict_of e) → Opens s (sort_number wrong) d (expansion_by (Err e)) d
+  pub stopped : (e : Reason) → ChecksTo newest s (verdict_of e) → Opens s wrong d (expansion_by (Err e)) d
   unfolding open_refusals
   stopped e c = opens_refused e d (answers_stopped (refusals_to newest s) later (verdict_of e) (refused_by e) c)
 
-  -- o is the root's sort, and b whether it is the wrong one
-  module _ (c : ChecksTo newest s accepted) (n : ℕ) (en : n ≡ count s) (o : Option Sort) (eo : sort_number o ≡ sort_at s (n - 1)) (b : Bool)
-      (eb : b ≡ option_eq eq-value.it o wrong) where
-    tested : b ≡ eqb (sort_at s (root s)) (sort_number wrong)
-    tested = eb ∙ same_sort o wrong ∙ ap (λ (k : ℕ). eqb k (sort_number wrong)) (eo ∙ ap (λ (i : ℕ). sort_at s (i - 1)) en)
+  -- o is the number of the root's sort
+  module _ (c : ChecksTo newest s accepted) (n : ℕ) (en : n ≡ count s) (o : ℕ) (eo : o ≡ sort_at s (n - 1)) where
+    root_sort : o ≡ sort_at s (root s)
+    root_sort = eo ∙ ap (λ (i : ℕ). sort_at s (i - 1)) en
 
     -- refused by the root
-    pub wrong_root_lem : b ≡ true → Opens s (sort_number wrong) d (expansion_by (Err WrongRoot)) d
+    pub wrong_root_lem : o ≡ wrong → Opens s wrong d (expansion_by (Err WrongRoot)) d
     unfolding open_refusals Answers
     wrong_root_lem t =
         opens_refused WrongRoot d
-        (answers_beyond (refusals_to newest s) later _ (passes s c n en) (inl (refl, (refl, eqb-true (sort_at s (root s)) (sort_number wrong) (sym tested ∙ t)))))
+        (answers_beyond (refusals_to newest s) later _ (passes s c n en) (inl (refl, (refl, sym root_sort ∙ t))))
 
-    module _ (f : b ≡ false) (d' : List ℕ) where
-      right_root : (k : ℕ) → ¬ ((k ≡ 0) × (sort_at s (root s) ≡ sort_number wrong))
-      right_root k (_, e) = eqb-false (sort_at s (root s)) (sort_number wrong) (sym tested ∙ f) e
+    module _ (f : ¬ (o ≡ wrong)) (d' : List ℕ) where
+      right_root : (k : ℕ) → ¬ ((k ≡ 0) × (sort_at s (root s) ≡ wrong))
+      right_root k (_, e) = f (root_sort ∙ e)
 
       -- refused by the size, or opened
-      pub answered : (r : Option ℕ) → Unfolds s d r d' → Opens s (sort_number wrong) d (expansion_by (ok_or r ManyNodes)) d'
+      pub answered : (r : Option ℕ) → Unfolds s d r d' → Opens s wrong d (expansion_by (ok_or r ManyNodes)) d'
       unfolding open_refusals Answers
       answered None u =
           let many : 120 < expanded_count s =

@@ -7,14 +7,13 @@ ghost use Rattle.refusal.specs.Heading.{count};
 ghost use Rattle.refusal.specs.declared.Reason.TheVariants.{SmallOutput};
 ghost use Rattle.nodes.specs.Operators.{sequence};
 ghost use Rattle.nodes.specs.Nodes.{sort_at, root};
-ghost use Rattle.nodes.specs.Sorts.{sort_number};
 ghost use Rattle.expansion.specs.Formed.{Formed};
 ghost use Rattle.expand.specs.Expands.{Expands};
 ghost use Rattle.expand.specs.Opens.{has_version3, expansion_by, Unfolds, Opens};
 
 use encoding::{TABLE_BYTES, put_heading};
 use firsts::put_booleans;
-use nodes::operators::{NEWEST, Sort};
+use nodes::operators::{NEWEST, NO_SORT, sort_number};
 use nodes::{SLOTS, sort_at};
 use nodestep::Source;
 use pieces::Piece;
@@ -74,26 +73,28 @@ fn unfold(b: &[u8], n: usize, out: &mut [u8; TABLE_BYTES]) -> Option<usize>
 }
 
 // Of a version 3 table: refusals 1 to 9, 12 where the root is of the wrong sort, and 13, the first that applies; with none, its expansion in the first
-// bytes of `new`. With no `wrong` any root will do.
-pub fn open(b: &[u8], wrong: Option<Sort>, new: &mut [u8; TABLE_BYTES]) -> Result<usize, Reason>
+// bytes of `new`. The sort is a number; with one that no root has, as 0, any root will do.
+pub fn open(b: &[u8], wrong: u8, new: &mut [u8; TABLE_BYTES]) -> Result<usize, Reason>
     requires { has_version3 b.now ≡ true }
-    ensures { Opens b.now (sort_number wrong) new.old (expansion_by result) new.new }
+    ensures { Opens b.now wrong new.old (expansion_by result) new.new }
 {
     let n = checked(b, NEWEST)?;
-    if sort_at(b, n - 1) == wrong {
+    if sort_number(sort_at(b, n - 1)) == wrong {
         return Err(Reason::WrongRoot);
     }
     unfold(b, n, new).ok_or(Reason::ManyNodes)
 }
 
-// Copies a table to the start of `out`, if it has room there.
+// Copies a table to the start of `out`, if it has room there. Byte by byte: `copy_from_slice` asks for `memmove`, which the library then needs from outside.
 fn copy_table(table: &[u8], out: &mut [u8]) -> Result<(), Reason>
     ensures { MatchResult result (λ _. (length table.now ≤ length out.old) × (out.new ≡ table.now ++ drop (length table.now) out.old)) (λ reason. (reason ≡ SmallOutput) × (length out.old < length table.now) × (out.new ≡ out.old)) }
 {
     if out.len() < table.len() {
         return Err(Reason::SmallOutput);
     }
-    out[..table.len()].copy_from_slice(table);
+    for i in 0..table.len() {
+        out[i] = table[i];
+    }
     Ok(())
 }
 
@@ -103,7 +104,7 @@ fn expanded(b: &[u8], out: &mut [u8]) -> Result<usize, Reason>
 {
     if has_version_3(b) {
         let mut new = [0; TABLE_BYTES];
-        let m = open(b, None, &mut new)?;
+        let m = open(b, NO_SORT, &mut new)?;
         let long = 4 * m + 6;
         copy_table(&new[..long], out)?;
         return Ok(m);

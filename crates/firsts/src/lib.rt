@@ -10,7 +10,7 @@ ghost use Rattle.firsts.specs.Gifts.{gift_of};
 ghost use Rattle.expansion.specs.Formed.{Formed, NumberedBelow};
 ghost use Rattle.firsts.specs.Firsts.{FirstsPut};
 
-use encoding::{moved_byte, put_node};
+use encoding::{moved_operand, put_node};
 use nodes::operators::row_of;
 use nodes::{Raw, SLOTS, node_at};
 
@@ -48,8 +48,8 @@ fn put_given(b: &[u8], k: usize, numbers: &[u8; SLOTS], out: &mut [u8], at: usiz
         return at;
     };
     let r = row_of(v.op);
-    let x = moved_byte(numbers, r.x, v.x);
-    let y = moved_byte(numbers, r.y, v.y);
+    let x = moved_operand(numbers, r.x, v.x);
+    let y = moved_operand(numbers, r.y, v.y);
     put_node(
         out,
         at,

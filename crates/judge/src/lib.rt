@@ -3,7 +3,8 @@
 
 ghost use Rattle.std.specs.Prelude.{◌≡◌, replicate, None};
 ghost use Rattle.nodes.specs.Sorts.{sort_number};
-ghost use Rattle.rewrite.specs.Computed.{rewriting_by, renumbered};
+ghost use Rattle.rewrite.specs.Computed.{renumbered};
+ghost use Rattle.settling.specs.Computed.{settled_by};
 ghost use Rattle.judge.specs.Judges.{Judges, EndsMatches};
 ghost use Rattle.judge.specs.Computed.{NoEnds, Lays};
 
@@ -11,12 +12,12 @@ use cells::{Span, TOP_WORD, word_at};
 use encoding::TABLE_BYTES;
 use judgement::{Judgement, refused};
 use nodes::SLOTS;
-use nodes::operators::Sort;
+use nodes::operators::{Sort, sort_number};
 use positions::PositionSet;
 use readout::level_of;
-use refusal::{Reason, Verdict};
+use refusal::Verdict;
 use rows::fill;
-use settling::settle;
+use settling::{Unsettled, settle};
 use tested::tested;
 
 // What match ends answers: the ends of the matches from the start, and whether the samples from there on, followed by one or more ⊤, match.
@@ -52,13 +53,13 @@ fn lay(
     new: &mut [u8; TABLE_BYTES],
     clocks: &mut [Option<u8>; SLOTS],
     numbers: &mut [u8; SLOTS],
-) -> Result<usize, Reason>
+) -> Result<usize, Unsettled>
     requires { clocks.old ≡ replicate 121 None }
-    ensures { Lays table.now (sort_number wrong) samples.now start ws.old new.old (renumbered (rewriting_by result) clocks.new numbers.new) new.new ws.new }
+    ensures { Lays table.now (sort_number wrong) samples.now start ws.old new.old (renumbered (settled_by result) clocks.new numbers.new) new.new ws.new }
 {
     let m = settle(
         table,
-        wrong,
+        sort_number(wrong),
         samples.len(),
         start,
         ws.len(),
@@ -90,7 +91,7 @@ pub fn judge(table: &[u8], samples: &[u64], workspace: &mut [u64]) -> Judgement
         &mut numbers,
     ) {
         Ok(m) => m,
-        Err(reason) => return refused(Verdict::from(reason)),
+        Err(unsettled) => return refused(Verdict::from(unsettled.reason)),
     };
     let span = Span { n: samples.len() };
     let tests = tested(table, &clocks, &numbers, workspace, span);
@@ -120,7 +121,7 @@ pub fn match_ends(table: &[u8], samples: &[u64], start: usize, workspace: &mut [
         &mut numbers,
     ) {
         Ok(m) => m,
-        Err(reason) => return MatchEnds::refused(Verdict::from(reason)),
+        Err(unsettled) => return MatchEnds::refused(Verdict::from(unsettled.reason)),
     };
     let root = m - 1;
     MatchEnds {

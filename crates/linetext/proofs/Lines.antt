@@ -176,3 +176,11 @@ module _ (table read : Verdict) (level : ℕ) (tested : Bool) where
     pub told_level : read.number ≡ 0 → line_of table read level tested ≡ level_line level tested
     unfolding line_of
     told_level y = rw (eq-eqb table.number 0 z, eq-eqb read.number 0 y)
+
+-- what is put from the start on is the first of the bytes that are left
+pub puts_within : (d t : List ℕ) (r : ℕ) (d' : List ℕ) → Puts d 0 t r d' → r ≤ length d'
+puts_within d t r d' p =
+    let n = p.next in
+    let b : length d' ≡ length (t ++ drop (0 + length t) d) = ap length (p.bytes ∙ ap (λ (u : List ℕ). u ++ drop (0 + length t) d) (take-length t)) in
+    let a = length-append t (drop (0 + length t) d) in
+    omega arith

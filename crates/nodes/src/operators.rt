@@ -2,7 +2,7 @@
 // byte may be, and the length of its block.
 ghost use Rattle.std.specs.Prelude.{◌≡◌};
 ghost use Rattle.nodes.specs.Operators.{none, row_of};
-ghost use Rattle.nodes.specs.Sorts.{row_numbers, operand_sort, operand_limit};
+ghost use Rattle.nodes.specs.Sorts.{sort_number, row_numbers, operand_sort, operand_limit};
 
 // The sorts of nodes.
 #[derive(Clone, Copy, PartialEq, Eq)]
@@ -12,11 +12,40 @@ pub enum Sort {
     Property,
 }
 
+// The number of no sort.
+pub const NO_SORT: u8 = 0;
+
+// The number of a sort, for those who ask by it, in the order of the sorts.
+#[tactic(auto, unfolding(crate::specs::Sorts::sort_number))]
+pub fn sort_number(sort: Option<Sort>) -> u8
+    ensures { result ≡ sort_number sort }
+{
+    match sort {
+        None => NO_SORT,
+        Some(Sort::Boolean) => 1,
+        Some(Sort::Sequence) => 2,
+        Some(Sort::Property) => 3,
+    }
+}
+
 // What an operand byte may be: a number below a limit, which is 1 for a byte that is not used, or the index of a lower node of the sort.
 #[derive(Clone, Copy)]
 pub enum Operand {
     Below(u8),
     Node(Sort),
+}
+
+impl Operand {
+    // The number of an operand's sort, 0 for a plain number.
+    #[tactic(auto, unfolding(crate::specs::Sorts::operand_sort))]
+    pub fn sort(self) -> u8
+        ensures { result ≡ operand_sort self }
+    {
+        match self {
+            Operand::Below(_) => NO_SORT,
+            Operand::Node(sort) => sort_number(Some(sort)),
+        }
+    }
 }
 
 // What the fourth byte may be: 0; m + 16n with m at most n; m, at most 15.

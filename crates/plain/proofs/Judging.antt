@@ -28,7 +28,7 @@ use Rattle.meaning.specs.Meaning.{Level}
 use Rattle.meaning.specs.Pairs.{Atom, reading, pairs}
 use Rattle.meaning.proofs.Pairing.{length_pairs}
 use Rattle.meaning.proofs.Leveling.{level_from}
-use Rattle.nodes.specs.Operators.{sequence, base}
+use Rattle.nodes.specs.Operators.{sequence}
 use Rattle.nodes.specs.declared.operators.Sort.{Sort}
 use Rattle.nodes.specs.declared.operators.Sort.TheVariants.{Sequence}
 use Rattle.nodes.specs.contracts.operators.SortPartialEq.TheImpl.{eq-value}
@@ -38,7 +38,7 @@ use Rattle.nodes.specs.Nodes.{sort_at, root}
 use Rattle.nodes.proofs.Built.{Built}
 use Rattle.table.specs.Trees.{RootP}
 use Rattle.table.specs.Check as Check
-use Rattle.table.specs.Check.{Checks, ChecksTo}
+use Rattle.table.specs.Check.{Checks}
 use Rattle.table.proofs.Standing.{property_in}
 use Rattle.table.proofs.Checking.{sound, checks_given}
 use Rattle.table.proofs.CheckingTo.{sorts}
@@ -92,21 +92,17 @@ module _ (s xs : List ℕ) where
   abbrev own : List Refusal
   own = wrong_root s sequence ∷ too_long (length xs) ∷ []
 
-  pub by_check : (e : Reason) → ChecksTo base s (verdict_of e) → Answers (plain_refusals s (length xs)) (verdict_of e)
+  pub by_check : (e : Reason) → Checks s (verdict_of e) → Answers (plain_refusals s (length xs)) (verdict_of e)
   unfolding plain_refusals Check.refusals
   by_check e c = answers_stopped (Check.refusals s) own (verdict_of e) (refused_by e) c
 
-  module _ (c : ChecksTo base s accepted) where
-    checks : Checks s accepted
-    unfolding Check.refusals
-    checks = c
-
+  module _ (c : Checks s accepted) where
     built : Built s
-    built = (sound s accepted checks refl).formed
+    built = (sound s accepted c refl).formed
 
     answer : (u : Verdict) → Answers own u → Answers (plain_refusals s (length xs)) u
     unfolding plain_refusals
-    answer u a = answers_beyond (Check.refusals s) own u (checks_given s accepted checks refl) a
+    answer u a = answers_beyond (Check.refusals s) own u (checks_given s accepted c refl) a
 
     module _ (m : ℕ) (em : m ≡ count s) where
       pub has_root : 1 ≤ m
@@ -133,7 +129,7 @@ module _ (s xs : List ℕ) where
 
           module _ (short : length xs ≤ longest) where
             pub shaped : Shaped s xs
-            shaped = record { old = (sound s accepted checks refl).known.1; few = built.few; long = built.long; fit = built.fit; short = short }
+            shaped = record { old = (sound s accepted c refl).known.1; few = built.few; long = built.long; fit = built.fit; short = short }
 
             -- the root is a property
             property_at_root : (P : Prop Atom) × RootP s P

@@ -13,11 +13,11 @@ use cells::{LONGEST, Span, all_samples};
 use conditions::conditions;
 use judgement::{Judgement, refused};
 use meaning::Level;
-use nodes::operators::{BASE, Sort};
+use nodes::operators::Sort;
 use nodes::sort_at;
 use refusal::{Reason, Verdict};
 use steps::Told;
-use table::checked;
+use table::checked_base;
 use ticking::Ticks;
 use walk::property_row;
 
@@ -48,7 +48,7 @@ fn root_told(table: &[u8], samples: &[u64]) -> Told
 fn judged(table: &[u8], samples: &[u64]) -> Result<Judgement, Reason>
     ensures { MatchResult result (λ r. PlainJudges table.now samples.now r) (λ reason. Answers (plain_refusals table.now (length samples.now)) (verdict_of reason)) }
 {
-    let m = checked(table, BASE)?;
+    let m = checked_base(table)?;
     if sort_at(table, m - 1) == Some(Sort::Sequence) {
         return Err(Reason::WrongRoot);
     }

@@ -25,7 +25,7 @@ impl PositionSet {
     }
 
     // Place i alone.
-    #[tactic(auto, using(crate::proofs::Laws::has_shl_one))]
+    #[tactic(auto, using(crate::proofs::Laws::has_shl_one_64))]
     pub fn one(i: usize) -> Self
         requires { i ≤ 63 }
         ensures { Is result.bits (λ k. eqb k i) }
@@ -34,7 +34,7 @@ impl PositionSet {
     }
 
     // The set with place i added.
-    #[tactic(auto, using(crate::proofs::Laws::has_or, crate::proofs::Laws::has_shl_one))]
+    #[tactic(auto, using(crate::proofs::Laws::has_or, crate::proofs::Laws::has_shl_one_64))]
     pub fn with(self, i: usize) -> Self
         requires { i ≤ 63 }
         ensures { Is result.bits (λ k. has self.bits k || eqb k i) }
@@ -80,7 +80,7 @@ impl PositionSet {
     }
 
     // The places of the set that the other lacks.
-    #[tactic(auto, using(crate::proofs::Laws::has_and_not))]
+    #[tactic(auto, using(crate::proofs::Laws::has_and_not_64))]
     pub fn without(self, other: PositionSet) -> Self
         ensures { Is result.bits (λ k. has self.bits k && not (has other.bits k)) }
     {
@@ -90,7 +90,7 @@ impl PositionSet {
     }
 
     // All places 0 to n.
-    #[tactic(auto, using(crate::proofs::Laws::has_upto))]
+    #[tactic(auto, using(crate::proofs::Laws::has_upto_64))]
     pub fn full(n: usize) -> Self
         requires { n ≤ 63 }
         ensures { Is result.bits (λ k. leb k n) }
@@ -117,7 +117,7 @@ impl PositionSet {
     }
 
     // The set's places from i on.
-    #[tactic(auto, using(crate::proofs::Laws::has_from))]
+    #[tactic(auto, using(crate::proofs::Laws::has_from_64))]
     pub fn from(self, i: usize) -> Self
         requires { i ≤ 63 }
         ensures { Is result.bits (λ k. has self.bits k && leb i k) }

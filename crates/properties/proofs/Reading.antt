@@ -19,3 +19,7 @@ told_row rows p x h = fun_ext each
 
 pub by_row_lem : (f : (Tail → ℕ → Bool) → Tail → ℕ → Bool) (rows : List ℕ) (p : ℕ) (x r : Suffixes) → WordsAt rows p x → Sets (f (told x)) r → Sets (f (told_in rows p)) r
 by_row_lem f rows p x r h s = subst (λ P. Sets (f P) r) (told_row rows p x h) s
+
+pub by_rows : (f : (Tail → ℕ → Bool) → (Tail → ℕ → Bool) → Tail → ℕ → Bool) (rows : List ℕ) (p q : ℕ) (x y r : Suffixes) → WordsAt rows p x → WordsAt rows q y
+    → Sets (f (told x) (told y)) r → Sets (f (told_in rows p) (told_in rows q)) r
+by_rows f rows p q x y r h k s = by_row_lem (λ P. f P (told_in rows q)) rows p x r h (by_row_lem (f (told x)) rows q y r k s)

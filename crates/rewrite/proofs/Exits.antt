@@ -12,9 +12,7 @@ use Rattle.refusal.specs.Computed.{first_case, accepted}
 use Rattle.refusal.specs.Reasons.{verdict_of}
 use Rattle.refusal.proofs.Cases.{skip, stop, through}
 use Rattle.refusal.proofs.Errors.{refused_by}
-use Rattle.nodes.specs.Operators.{base}
-use Rattle.table.specs.Check as Check
-use Rattle.table.specs.Check.{Checks, ChecksTo}
+use Rattle.table.specs.Check.{Checks}
 use Rattle.nodes.proofs.Built.{Built}
 use Rattle.table.proofs.Checking.{sound}
 use Rattle.clocks.specs.Computed.{clock_by, AcceptedTable, Timed}
@@ -28,16 +26,12 @@ use Rattle.rewrite.specs.Computed.{rewriting_by, renumbered, Renumbers}
 use Rattle.rewrite.proofs.Deciding.{cases, size, size_is, table_stops, table_passes, answered}
 
 -- a table that is accepted
-module _ (s : List ℕ) (h : ChecksTo base s accepted) where
-  as_checks : Checks s accepted
-  unfolding Check.refusals
-  as_checks = h
-
+module _ (s : List ℕ) (h : Checks s accepted) where
   built : Built s
-  built = (sound s accepted as_checks refl).formed
+  built = (sound s accepted h refl).formed
 
   pub table_is : AcceptedTable s
-  table_is = let l = built.long in record { checks = as_checks; few = built.few; long = omega arith }
+  table_is = let l = built.long in record { checks = h; few = built.few; long = omega arith }
 
 module _ (s d : List ℕ) where
   -- a refusal hands on nothing, and changes nothing lent
@@ -48,25 +42,24 @@ module _ (s d : List ℕ) where
         numbered = λ z. absurd (refused_by e z);
       }
 
-  pub of_table : (e : Reason) → ChecksTo base s (verdict_of e) → (clocks : List (Option ℕ)) (numbers : List ℕ) → Renumbers s d (renumbered (rewriting_by (Err e)) clocks numbers) d
-  unfolding Check.refusals
+  pub of_table : (e : Reason) → Checks s (verdict_of e) → (clocks : List (Option ℕ)) (numbers : List ℕ) → Renumbers s d (renumbered (rewriting_by (Err e)) clocks numbers) d
   of_table e c = refuses e (table_stops s (length d) (verdict_of e) c (refused_by e))
 
-  module _ (h : ChecksTo base s accepted) (clocks : List (Option ℕ)) (timed : Timed s clocks) (counts : Counts) (counted : CountsOf s clocks counts) where
+  module _ (h : Checks s accepted) (clocks : List (Option ℕ)) (timed : Timed s clocks) (counts : Counts) (counted : CountsOf s clocks counts) where
     abbrev m : ℕ
     m = counts.all
 
     size_all : size s ≡ m
-    size_all = size_is s (as_checks s h) (clock_by clocks) timed.right ∙ sym counted.all
+    size_all = size_is s h (clock_by clocks) timed.right ∙ sym counted.all
 
     pub many_nodes : 120 < m → (numbers : List ℕ) → Renumbers s d (renumbered (rewriting_by (Err ManyNodes)) clocks numbers) d
-    many_nodes g = refuses ManyNodes (sym (table_passes s (length d) accepted (as_checks s h) refl ∙ stop _ _ _ (rw size_all (lt-ltb 120 m g)))) clocks
+    many_nodes g = refuses ManyNodes (sym (table_passes s (length d) accepted h refl ∙ stop _ _ _ (rw size_all (lt-ltb 120 m g)))) clocks
 
     module _ (few : m ≤ 120) where
       pub small_output : length d < 4 * m + 6 → (numbers : List ℕ) → Renumbers s d (renumbered (rewriting_by (Err SmallOutput)) clocks numbers) d
       small_output g =
           refuses SmallOutput
-          (sym (table_passes s (length d) accepted (as_checks s h) refl ∙ skip _ _ _ (rw size_all (le-ltb 120 m few)) ∙ stop _ _ _ (rw size_all (lt-ltb (length d) (6 + 4 * m) (omega arith))))) clocks
+          (sym (table_passes s (length d) accepted h refl ∙ skip _ _ _ (rw size_all (le-ltb 120 m few)) ∙ stop _ _ _ (rw size_all (lt-ltb (length d) (6 + 4 * m) (omega arith))))) clocks
 
       pub rewritten : 4 * m + 6 ≤ length d → (numbers : List ℕ) → Numbered s clocks numbers → (d' : List ℕ) → d' ≡ put d 0 (new_table s (clock_by clocks))
           → Renumbers s d (renumbered (rewriting_by (Ok m)) clocks numbers) d'
@@ -78,7 +71,7 @@ module _ (s d : List ℕ) where
           record {
             rewrites = record {
               answer = answered s d accepted
-                  (sym (table_passes s (length d) accepted (as_checks s h) refl ∙ skip _ _ _ (rw size_all (le-ltb 120 m few)) ∙ skip _ _ _ (rw size_all (le-ltb (length d) (6 + 4 * m) (omega arith))) ∙ through));
+                  (sym (table_passes s (length d) accepted h refl ∙ skip _ _ _ (rw size_all (le-ltb 120 m few)) ∙ skip _ _ _ (rw size_all (le-ltb (length d) (6 + 4 * m) (omega arith))) ∙ through));
               accepted = λ _. (clock_by clocks, timed.right, (em, e ∙ ap (λ (i : ℕ). new_table s (clock_by clocks) ++ drop i d) j));
               refused = λ z. absurd (z refl);
             };

@@ -7,10 +7,9 @@ ghost use Rattle.rewrite.specs.Computed.{rewriting_by, renumbered, Renumbers};
 
 use clocks::clocks_of;
 use nodes::SLOTS;
-use nodes::operators::BASE;
 use numbers::{counts_of, numbers_of};
 use refusal::{Reason, Verdict};
-use table::checked;
+use table::checked_base;
 use writing::put_table;
 
 // The nodes that a table may have.
@@ -53,7 +52,7 @@ pub fn rewrite_numbered(
     requires { clocks.old ≡ replicate 121 None }
     ensures { Renumbers b.now out.old (renumbered (rewriting_by result) clocks.new numbers.new) out.new }
 {
-    checked(b, BASE)?;
+    checked_base(b)?;
     clocks_of(b, clocks);
     let counts = counts_of(b, clocks);
     if MOST < counts.all {

@@ -2,3 +2,5 @@
 pub mod Refusing
 -- What an acceptance says.
 pub mod Passing
+-- Of any refusal of the table that rewriting answers.
+pub mod Stopping

@@ -9,7 +9,7 @@ use Prim.Native.Nat.{ℕ, ◌+◌, ◌*◌, ◌-◌, ◌<◌, ◌≤◌}
 use lib.Dec.{eqb, ltb}
 use lib.ListN.{length, take}
 use Rattle.std.specs.Prelude.{Option, Result, Ok, Err}
-use Rattle.std.specs.Result.{result_eq}
+use Rattle.std.specs.Result.{result_eq, result_unwrap_or}
 use Rattle.telling.specs.Tells.{Tells}
 use Rattle.telling.proofs.Telling.{decide, is_map, is_not, is_eq, is_lt}
 use Rattle.refusal.specs.declared.Verdict.{Verdict}
@@ -39,7 +39,7 @@ use Rattle.rewrite.proofs.Deciding.{few_new}
 use Rattle.rewrite.proofs.Theorems.{output_is}
 use Rattle.cells.specs.Shares.{share, longest}
 use Rattle.settling.specs.Refusals.{ends_refusals}
-use Rattle.settling.specs.Computed.{own_refusals, own_cases, settling, Settles}
+use Rattle.settling.specs.Computed.{own_refusals, own_cases, settling, uncounted, settled_by, Settles}
 
 -- ---- the first of the own refusals, as the code asks one after the other
 
@@ -154,7 +154,7 @@ module _ (s d : List ℕ) (room : length d ≡ 486) (rewritten : Result ℕ Reas
       bad (inr (few, inr (_, (e, _)))) = z e
 
   pub of_table : (wrong n start words : ℕ) → result_eq eqb eq-value.it rewritten (Err ManyNodes) ≡ false → (e : Reason) → rewritten ≡ Err e
-      → Settles s wrong n start words d (renumbered (rewriting_by (Err e)) clocks numbers) d'
+      → Settles s wrong n start words d (renumbered (settled_by (Err (uncounted e))) clocks numbers) d'
   of_table wrong n start words t e ee =
       let y : v.number ≡ (verdict_of e).number = ap (λ (q : Result ℕ Reason). (rewriting_by q).verdict.number) ee in
       let a = stopped wrong n start words (λ z. refused_by e (sym y ∙ z)) (eqb-false v.number 13 (sym (many_told rewritten) ∙ t)) in
@@ -162,10 +162,18 @@ module _ (s d : List ℕ) (room : length d ≡ 486) (rewritten : Result ℕ Reas
         answer = rw ee at a;
         rewriting = r;
         rewrites = w;
-        count = λ z. absurd (refused_by e z);
+        count = sym (ap (λ (q : Result ℕ Reason). (rewriting_by q).count) ee);
         numbered = λ z. absurd (refused_by e z);
         accepted = λ z. absurd (refused_by e z);
       }
+
+  -- the count, 0 where rewriting refuses
+  pub count_or : (c : ℕ) → c ≡ result_unwrap_or rewritten 0 → c ≡ r.count
+  count_or c ec = ec ∙ go rewritten
+    where
+      go : (q : Result ℕ Reason) → result_unwrap_or q 0 ≡ (rewriting_by q).count
+      go (Ok m) = refl
+      go (Err e) = refl
 
   -- else the table is accepted
   pub past_none : (m : ℕ) → rewritten ≡ Ok m → (v.number ≡ 0) ⊎ (v.number ≡ 13)
@@ -246,27 +254,30 @@ module _ (s d : List ℕ) (room : length d ≡ 486) (rewritten : Result ℕ Reas
       unfolding settling
       answered u eu = answers_beyond (Check.refusals s) own u passed_by.0 (subst (Answers own) (sym eu) (answers cases own decides))
 
-      refuses : (e : Reason) → verdict_of e ≡ first_case cases → Settles s wrong n start words d (renumbered (rewriting_by (Err e)) clocks numbers) d'
-      refuses e q = record {
+      -- c is the count that is handed on
+      refuses : (e : Reason) (c : ℕ) → c ≡ r.count → verdict_of e ≡ first_case cases
+          → Settles s wrong n start words d (renumbered (settled_by (Err (record { reason = e; count = c }))) clocks numbers) d'
+      refuses e c ec q = record {
         answer = answered (verdict_of e) q;
         rewriting = r;
         rewrites = w;
-        count = λ z. absurd (refused_by e z);
+        count = ec;
         numbered = λ z. absurd (refused_by e z);
         accepted = λ z. absurd (refused_by e z);
       }
 
-      pub wrong_sort : eqb sort wrong ≡ true → Settles s wrong n start words d (renumbered (rewriting_by (Err WrongRoot)) clocks numbers) d'
-      wrong_sort t = refuses WrongRoot (first_root _ _ n start words _ t)
+      pub wrong_sort : (c : ℕ) → c ≡ r.count → eqb sort wrong ≡ true
+          → Settles s wrong n start words d (renumbered (settled_by (Err (record { reason = WrongRoot; count = c }))) clocks numbers) d'
+      wrong_sort c ec t = refuses WrongRoot c ec (first_root _ _ n start words _ t)
 
       module _ (other : eqb sort wrong ≡ false) where
         -- 13, passed on
-        pub many_nodes : (e : Reason) → rewritten ≡ Err e → Settles s wrong n start words d (renumbered (rewriting_by (Err e)) clocks numbers) d'
+        pub many_nodes : (e : Reason) → rewritten ≡ Err e → Settles s wrong n start words d (renumbered (settled_by (Err (uncounted e))) clocks numbers) d'
         many_nodes e ee =
             let y : v.number ≡ (verdict_of e).number = ap (λ (q : Result ℕ Reason). (rewriting_by q).verdict.number) ee in
             let z : ¬ (v.number ≡ 0) = λ q. refused_by e (sym y ∙ q) in
             let t : v.number ≡ 13 = ⊎_elim (λ q. absurd (z q)) (λ q. q) past in
-            refuses e (many_is e (sym y ∙ t) ∙ first_many _ _ n start words _ other (ap not (ne_eqb v.number 0 z)))
+            refuses e 0 (sym (ap (λ (q : Result ℕ Reason). (rewriting_by q).count) ee)) (many_is e (sym y ∙ t) ∙ first_many _ _ n start words _ other (ap not (ne_eqb v.number 0 z)))
 
         module _ (m : ℕ) (em : rewritten ≡ Ok m) where
           few : not (eqb v.number 0) ≡ false
@@ -275,25 +286,25 @@ module _ (s d : List ℕ) (room : length d ≡ 486) (rewritten : Result ℕ Reas
           count_is : r.count ≡ m
           count_is = ap (λ (q : Result ℕ Reason). (rewriting_by q).count) em
 
-          pub long_record : longest < n → Settles s wrong n start words d (renumbered (rewriting_by (Err ManySamples)) clocks numbers) d'
-          long_record l = refuses ManySamples (first-long _ _ n start words _ other few l)
+          pub long_record : longest < n → Settles s wrong n start words d (renumbered (settled_by (Err (record { reason = ManySamples; count = m }))) clocks numbers) d'
+          long_record l = refuses ManySamples m (sym count_is) (first-long _ _ n start words _ other few l)
 
           module _ (l : n ≤ longest) where
-            pub late_start : n < start → Settles s wrong n start words d (renumbered (rewriting_by (Err LateStart)) clocks numbers) d'
-            late_start g = refuses LateStart (first_above _ _ n start words _ other few l g)
+            pub late_start : n < start → Settles s wrong n start words d (renumbered (settled_by (Err (record { reason = LateStart; count = m }))) clocks numbers) d'
+            late_start g = refuses LateStart m (sym count_is) (first_above _ _ n start words _ other few l g)
 
             module _ (a : start ≤ n) where
-              pub small_workspace : words < share * m → Settles s wrong n start words d (renumbered (rewriting_by (Err SmallWorkspace)) clocks numbers) d'
-              small_workspace g = refuses SmallWorkspace (first_small _ _ n start words _ other few l a (rw count_is g))
+              pub small_workspace : words < share * m → Settles s wrong n start words d (renumbered (settled_by (Err (record { reason = SmallWorkspace; count = m }))) clocks numbers) d'
+              small_workspace g = refuses SmallWorkspace m (sym count_is) (first_small _ _ n start words _ other few l a (rw count_is g))
 
-              pub settled : share * m ≤ words → Settles s wrong n start words d (renumbered (rewriting_by (Ok m)) clocks numbers) d'
+              pub settled : share * m ≤ words → Settles s wrong n start words d (renumbered (settled_by (Ok m)) clocks numbers) d'
               settled g =
                   let z : v.number ≡ 0 = ap (λ (q : Result ℕ Reason). (rewriting_by q).verdict.number) em in
                   record {
                     answer = answered accepted (first_none _ _ n start words _ other few l a (rw count_is g));
                     rewriting = r;
                     rewrites = w;
-                    count = λ _. sym count_is;
+                    count = sym count_is;
                     numbered = λ _. found.numbered z;
                     accepted = λ _. rw count_is at (left z);
                   }

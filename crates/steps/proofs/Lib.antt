@@ -1,2 +1,3 @@
--- Laws of rows laid side by side.
+-- Laws of rows laid side by side, and of sets that are joined.
 pub mod Copies
+pub mod Joining

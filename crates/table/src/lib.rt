@@ -60,6 +60,14 @@ pub fn checked(b: &[u8], newest: usize) -> Result<usize, Reason>
     Ok(n)
 }
 
+// The same of a table with base operators alone, as the engines read it.
+pub fn checked_base(b: &[u8]) -> Result<usize, Reason>
+    ensures verdict { Checks b.now (verdict_by result) }
+    ensures count { IfOk result (λ n. n ≡ count b.now) }
+{
+    checked(b, BASE)
+}
+
 // The number and the node of the first refusal of 1 to 9 that applies, and 0 and 0 where none does.
 pub fn check_to(b: &[u8], newest: usize) -> Verdict
     ensures { ChecksTo newest b.now result }
@@ -71,5 +79,5 @@ pub fn check_to(b: &[u8], newest: usize) -> Verdict
 pub fn check(b: &[u8]) -> Verdict
     ensures { Checks b.now result }
 {
-    check_to(b, BASE)
+    Verdict::of(checked_base(b))
 }

@@ -13,7 +13,7 @@ ghost use Rattle.writing.specs.Tables.{headed, block_of, new_table};
 ghost use Rattle.writing.specs.Computed.{pass_start, given_below, TableFits, BlockFits};
 
 use blocks::block_node;
-use encoding::{moved_byte, put_heading, put_node};
+use encoding::{moved_operand, put_heading, put_node};
 use nodes::operators::{Sort, row_of};
 use nodes::{SLOTS, count_of, named, node_at, sort_at};
 use numbers::{Counts, length_under};
@@ -41,8 +41,8 @@ fn put_block(
 {
     let v = node_at(b, k);
     let r = row_of(v.op);
-    let x = moved_byte(numbers, r.x, v.x);
-    let y = moved_byte(numbers, r.y, v.y);
+    let x = moved_operand(numbers, r.x, v.x);
+    let y = moved_operand(numbers, r.y, v.y);
     let c = moved_clock(numbers, clocks[k]);
     let long = length_under(clocks[k], r.block);
     for i in 0..long {

@@ -1,4 +1,5 @@
 -- `expand::open` meets its contract. The sections of `Opening` follow the code. Assumes nothing.
+use mathlib.Core.Path.{◌∙◌}
 use Rattle.std.proofs.lemmas.Result.{err_from_is_err_and}
 use Rattle.expand.proofs.Opening.{stopped, some, last_there, wrong_root_lem, formed, heavy, answered}
 use Rattle.expand.proofs.open.Goals as goal
@@ -14,9 +15,9 @@ overflow_sub-n c = some _ c.in_ok-n.ensures.verdict _ c.in_ok-n.ensures.count
 pub sort_at-requires : goal.sort_at-requires
 sort_at-requires c = last_there _ c.in_ok-n.ensures.verdict _ c.in_ok-n.ensures.count
 
-pub returns-then-eq : goal.returns-then-eq
-returns-then-eq c =
-    wrong_root_lem _ c.requires _ _ c.in_ok-n.ensures.verdict _ c.in_ok-n.ensures.count _ c.sort_at.ensures _ c.eq.ensures c.if-eq.true
+pub returns-then-sort_number-wrong : goal.returns-then-sort_number-wrong
+returns-then-sort_number-wrong c =
+    wrong_root_lem _ c.requires _ _ c.in_ok-n.ensures.verdict _ c.in_ok-n.ensures.count _ (c.sort_number.ensures ∙ c.sort_at.ensures) c.if-sort_number-wrong.true
 
 pub unfold-requires : goal.unfold-requires
 unfold-requires c =
@@ -27,4 +28,4 @@ unfold-requires c =
 pub returns : goal.returns
 returns c =
     rw c.ok_or.ensures.value
-    (answered _ c.requires _ _ c.in_ok-n.ensures.verdict _ c.in_ok-n.ensures.count _ c.sort_at.ensures _ c.eq.ensures c.if-eq.false _ _ c.unfold.ensures)
+    (answered _ c.requires _ _ c.in_ok-n.ensures.verdict _ c.in_ok-n.ensures.count _ (c.sort_number.ensures ∙ c.sort_at.ensures) c.if-sort_number-wrong.false _ _ c.unfold.ensures)

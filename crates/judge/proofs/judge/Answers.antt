@@ -5,7 +5,7 @@ use Rattle.judge.proofs.Judging.{some, root_there, tested_there, judge_refused, 
 use Rattle.judge.proofs.judge.Goals as goal
 
 pub returns-in-Err : goal.returns-in-Err
-returns-in-Err c = judge_refused _ _ _ _ _ _ _ c.in-Err.ensures (refused_by c.in-Err.reason) _ (rw c.from.ensures at c.refused.ensures)
+returns-in-Err c = judge_refused _ _ _ _ _ _ _ c.in-Err.ensures (refused_by c.in-Err.unsettled.reason) _ (rw c.from.ensures at c.refused.ensures)
 
 pub invariant_of-span : goal.invariant_of-span
 invariant_of-span c = record { short = (tested_there _ _ _ _ _ _ _ _ _ c.in-Ok.ensures refl).short }

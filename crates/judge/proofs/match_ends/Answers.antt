@@ -7,7 +7,7 @@ use Rattle.judge.proofs.Judging.{start_short, some, root_there, ends_refused, en
 use Rattle.judge.proofs.match_ends.Goals as goal
 
 pub returns-in-Err : goal.returns-in-Err
-returns-in-Err c = ends_refused _ _ _ _ _ _ _ _ c.in-Err.ensures (refused_by c.in-Err.reason) _ (rw c.from.ensures at c.refused.ensures)
+returns-in-Err c = ends_refused _ _ _ _ _ _ _ _ c.in-Err.ensures (refused_by c.in-Err.unsettled.reason) _ (rw c.from.ensures at c.refused.ensures)
 
 pub overflow_sub-root : goal.overflow_sub-root
 overflow_sub-root c = let w = c.in-Ok.ensures in some _ _ _ _ _ _ _ _ w.settles refl
